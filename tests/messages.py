@@ -57,7 +57,7 @@ def failed(name, words, given, status, line, said, **how):
 # Malformed lines: the line, the column of its place, the reason, and the hint if there is one. The column is that of the
 # first character that no line of the grammar can have there (RDF 1.1 N-Quads, section 4).
 TURTLE = "this looks like Turtle; N-Quads has no prefixes and no abbreviations: write each term in full"
-LATIN1 = "if the input is Latin-1, convert it: iconv -f LATIN1 -t UTF-8 FILE | spq check"
+LATIN1 = "if the input is Latin-1 or Windows-1252, convert it: iconv -f CP1252 -t UTF-8 FILE | spq check"
 CUT_OFF = "the document ends inside its last line: truncated?"
 NO_SUBJECT = "expected a subject (an IRI or a blank node), found "
 NO_DOT = "missing '.' at the end of the statement"
@@ -95,7 +95,7 @@ LINES = [
 # Bytes that are no line of text: the bytes, the place, the reason, what is shown of them, and the hint.
 BYTES = [
     (b'<a:s> <a:p> "caf\xe9" .\n', "byte 17", "invalid UTF-8: byte 0xE9", '<a:s> <a:p> "caf\ufffd" .\n                ^',
-     "if the input is Latin-1, convert it: iconv -f LATIN1 -t UTF-8 FILE | spq check"),
+     "if the input is Latin-1 or Windows-1252, convert it: iconv -f CP1252 -t UTF-8 FILE | spq check"),
     (b"\xef\xbb\xbf<a:s> <a:p> <a:o> .\n", "column 1", "a byte order mark (U+FEFF) at the beginning of a line",
      "\ufffd<a:s> <a:p> <a:o> .\n^", "leave the mark out: tail -c +4 FILE | spq check"),
     (b"\xff\xfe<\0a\0:\0s\0>\0\n", "byte 1", "the input looks like UTF-16; N-Quads is UTF-8",
@@ -111,7 +111,7 @@ LATER = [
     (b"", b"\x1f\x8b\x08\0", "byte 1", "the input looks like gzip", "\u241f\ufffd\u2408\u2400\n^",
      "a compressed file begins in this line: unpack files before they are joined"),
     (b"", b'<a:s> <a:p> "caf\xe9" .', "byte 17", "invalid UTF-8: byte 0xE9", '<a:s> <a:p> "caf\ufffd" .\n                ^',
-     "if the input is Latin-1, convert it: iconv -f LATIN1 -t UTF-8 FILE | spq check"),
+     "if the input is Latin-1 or Windows-1252, convert it: iconv -f CP1252 -t UTF-8 FILE | spq check"),
     ("<a:s> <a:p> \"caf\u00e9\" .".encode(), b'<a:s> <a:p> "caf\xe9" .', "byte 17", "invalid UTF-8: byte 0xE9", '<a:s> <a:p> "caf\ufffd" .\n                ^',
      "the text before this byte is UTF-8, so the byte is damaged: repair line 2"),
     ("# caf\u00e9".encode(), b'<a:s> <a:p> "caf\xe9" .', "byte 17", "invalid UTF-8: byte 0xE9", '<a:s> <a:p> "caf\ufffd" .\n                ^',
@@ -305,6 +305,11 @@ def several_lines():
                  "  1,001  a subject must be an IRI or a blank node (first: line 1005, column 1)\n"
                  "      2  a predicate must be an IRI (first: line 3, column 7)\n"
                  "      1  missing '.' at the end of the statement (first: line 2, column 18)\n")
+    # A dot that is missing after a graph name counts as one that is missing without it.
+    dots = [("<a:s> <a:p> <a:o>", 18), ("<a:s> <a:p> <a:o> <a:g>", 24)]
+    said = "".join(message(f"line {at}, column {column}", NO_DOT, under(line, column), None) for at, (line, column) in enumerate(dots, 1))
+    yield failed("dots that are missing", ["check"], "".join(line + "\n" for line, _ in dots).encode(), 1, "error: line 1", said
+                 + f"spq: 2 malformed lines\n  2  {NO_DOT} (first: line 1, column 18)\n")
     # A byte that is not UTF-8 counts bytes, and its hint depends on the lines before.
     yield failed("several lines that are not UTF-8", ["check"], b"<a:s> <a:p> \"\xe9\" .\n" * 2, 1, "error: line 1",
                  message("line 1, byte 14", "invalid UTF-8: byte 0xE9", '<a:s> <a:p> "\ufffd" .\n             ^', LATIN1)

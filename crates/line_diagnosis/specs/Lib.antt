@@ -5,4 +5,6 @@ pub mod Turn
 pub mod Rest
 pub mod Front
 pub mod Report
+pub mod Likeness
 pub mod Safe
+pub mod Summary

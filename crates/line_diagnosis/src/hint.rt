@@ -1,6 +1,6 @@
 //! The hint for a malformed line.
 
-ghost use Rattle.std.specs.Prelude.{◌≡◌, IfSome, Some};
+ghost use Rattle.std.specs.Prelude.{◌≡◌, ℕ, List, IfSome, Some};
 ghost use Rattle.line_diagnosis.specs.Safe.{IsSafe};
 ghost use Rattle.line_diagnosis.specs.declared.hint.Hint.TheVariants.{Unpack};
 ghost use Rattle.line_diagnosis.specs.declared.hint.LineContext.{LineContext};
@@ -64,7 +64,7 @@ impl fmt::Display for Hint {
                 "a compressed file begins in this line: unpack files before they are joined"
             }
             Hint::FromLatin1 => {
-                "if the input is Latin-1, convert it: iconv -f LATIN1 -t UTF-8 FILE | spq check"
+                "if the input is Latin-1 or Windows-1252, convert it: iconv -f CP1252 -t UTF-8 FILE | spq check"
             }
             Hint::Repair(number) => {
                 return write!(
@@ -130,7 +130,7 @@ fn is_escaped_space(before: &[u8], rest: &[u8]) -> bool {
 
 /// Returns the hint for a character that begins no terminal, between these parts of the line.
 fn hint_of_char(before: &[u8], rest: &[u8], next: Next, c: char) -> Option<Hint>
-    ensures safe { (context : LineContext) → IfSome result (IsSafe context) }
+    ensures safe { (context : LineContext) (line : List ℕ) → IfSome result (IsSafe context line) }
 {
     let touches_quote = next == Next::Graph && before.last().copied() == Some(b'"');
     match c {
@@ -144,7 +144,7 @@ fn hint_of_char(before: &[u8], rest: &[u8], next: Next, c: char) -> Option<Hint>
 
 /// Returns the hint for a line that ends too early.
 fn hint_at_end(reason: Reason, context: &LineContext) -> Option<Hint>
-    ensures safe { IfSome result (IsSafe context.now) }
+    ensures safe { (line : List ℕ) → IfSome result (IsSafe context.now line) }
 {
     if context.is_cut {
         Some(Hint::Truncated)
@@ -157,7 +157,7 @@ fn hint_at_end(reason: Reason, context: &LineContext) -> Option<Hint>
 
 /// Returns the hint for bytes that are no text, or that are those of another format.
 fn hint_of_bytes(before: &[u8], reason: Reason, context: &LineContext) -> Option<Hint>
-    ensures safe { IfSome result (IsSafe context.now) }
+    ensures safe { (line : List ℕ) → IfSome result (IsSafe context.now line) }
     ensures packed { (packing : Packing) → reason ≡ Packed packing → context.now.number ≡ 1
         → result ≡ Some (Unpack packing) }
 {
@@ -179,7 +179,7 @@ fn hint_of_bytes(before: &[u8], reason: Reason, context: &LineContext) -> Option
 
 /// Returns the hint for text, given the parts of the line before the place and from it on.
 fn hint_of_text(before: &[u8], rest: &[u8], reason: Reason, context: &LineContext) -> Option<Hint>
-    ensures safe { IfSome result (IsSafe context.now) }
+    ensures safe { (line : List ℕ) → IfSome result (IsSafe context.now line) }
 {
     match reason {
         Reason::IriChar(' ') => Some(Hint::SpaceInIri),
@@ -200,7 +200,7 @@ fn hint_of_text(before: &[u8], rest: &[u8], reason: Reason, context: &LineContex
 /// unpacked or converted for its first line alone, and from Latin-1 only if no text in UTF-8 is before the
 /// place. Only the last line can be truncated.
 pub fn hint_of(line: &[u8], diagnosis: &Diagnosis, context: &LineContext) -> Option<Hint>
-    ensures safe { IfSome result (IsSafe context.now) }
+    ensures safe { IfSome result (IsSafe context.now line.now) }
     ensures packed { (packing : Packing) → diagnosis.now.reason ≡ Packed packing
         → context.now.number ≡ 1 → result ≡ Some (Unpack packing) }
 {

@@ -41,10 +41,10 @@ pub fn step_label_dot(part: Part, c: char) -> Result<State, Reason>
 pub fn step_label_dots(part: Part, c: char) -> Result<State, Reason>
     ensures { Steps (Accepts (state.LabelDots part)) c result }
 {
-    if is_label_char(c) {
-        Ok(State::Label(part))
-    } else if c == '.' {
+    if c == '.' {
         Ok(State::LabelDots(part))
+    } else if is_label_char(c) {
+        Ok(State::Label(part))
     } else {
         Err(Reason::LabelDot)
     }

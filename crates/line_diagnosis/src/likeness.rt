@@ -1,9 +1,14 @@
 //! What the text of a malformed line looks like, for its hint.
 
+ghost use Rattle.std.specs.Prelude.{◌≡◌, ◌||◌, ◌==◌};
+ghost use Rattle.line_diagnosis.specs.Likeness.{begins_with, ends_word, goes_on, is_conflict_mark, is_html, is_html_tag, is_html_text, is_marked};
+
 use crate::reason::Next;
 
 /// Returns whether a byte is a blank.
-fn is_blank(byte: u8) -> bool {
+fn is_blank(byte: u8) -> bool
+    ensures value { result ≡ (byte == 32 || byte == 9) }
+{
     byte == b' ' || byte == b'\t'
 }
 
@@ -16,33 +21,71 @@ fn split_word(text: &[u8]) -> (&[u8], &[u8]) {
 }
 
 /// Returns whether a text begins with these letters, in any case.
-fn begins_with(text: &[u8], letters: &[u8]) -> bool {
+fn begins_with(text: &[u8], letters: &[u8]) -> bool
+    ensures value { result ≡ begins_with text.now letters.now }
+{
     match text.get(..letters.len()) {
         Some(front) => front.eq_ignore_ascii_case(letters),
         None => false,
     }
 }
 
-/// Returns whether a line begins as an HTML document does.
-pub fn is_html(line: &[u8]) -> bool {
-    let line = line.trim_ascii_start();
-    let is_tag = begins_with(line, b"<html")
-        && !matches!(line.get(5), Some(byte) if byte.is_ascii_alphanumeric() || *byte == b':');
-    is_tag || begins_with(line, b"<!doctype html")
+/// Returns whether the name of a tag goes on with this byte.
+fn goes_on(next: Option<u8>) -> bool
+    ensures value { result ≡ goes_on next }
+{
+    match next {
+        Some(byte) => byte.is_ascii_alphanumeric() || byte == b':',
+        None => false,
+    }
 }
 
-/// The marks of a merge conflict. Each begins a line, and a space or the end of the line follows it.
-const CONFLICT_MARKS: [&[u8]; 4] = [b"<<<<<<<", b"|||||||", b"=======", b">>>>>>>"];
+/// Returns whether a text begins with the first tag of an HTML document.
+fn is_html_tag(text: &[u8]) -> bool
+    ensures value { result ≡ is_html_tag text.now }
+{
+    begins_with(text, b"<html") && !goes_on(text.get(5).copied())
+}
+
+/// Returns whether a text begins with the first tag or the type of an HTML document.
+fn is_html_text(text: &[u8]) -> bool
+    ensures value { result ≡ is_html_text text.now }
+{
+    is_html_tag(text) || begins_with(text, b"<!doctype html")
+}
+
+/// Returns whether a line begins as an HTML document does.
+pub fn is_html(line: &[u8]) -> bool
+    ensures value { result ≡ is_html line.now }
+{
+    is_html_text(line.trim_ascii_start())
+}
+
+/// Returns whether a word ends before this byte, or at the end of the line.
+fn ends_word(next: Option<u8>) -> bool
+    ensures value { result ≡ ends_word next }
+{
+    match next {
+        Some(byte) => is_blank(byte),
+        None => true,
+    }
+}
+
+/// Returns whether a line begins with a mark, which is a word.
+fn is_marked(line: &[u8], mark: &[u8]) -> bool
+    ensures value { result ≡ is_marked line.now mark.now }
+{
+    line.starts_with(mark) && ends_word(line.get(mark.len()).copied())
+}
 
 /// Returns whether a line is a mark of a merge conflict.
-pub fn is_conflict_mark(line: &[u8]) -> bool {
-    let (mark, _) = split_word(line);
-    for known in CONFLICT_MARKS {
-        if mark == known {
-            return true;
-        }
-    }
-    false
+pub fn is_conflict_mark(line: &[u8]) -> bool
+    ensures value { result ≡ is_conflict_mark line.now }
+{
+    is_marked(line, b"<<<<<<<")
+        || is_marked(line, b"|||||||")
+        || is_marked(line, b"=======")
+        || is_marked(line, b">>>>>>>")
 }
 
 /// Returns whether a byte may be in the prefix of a prefixed name (Turtle, section 6.5,

@@ -1,5 +1,8 @@
 //! The reasons why a line is malformed, and their text.
 
+ghost use Rattle.std.specs.Prelude.{◌≡◌, ◌⊎◌, OnSome};
+ghost use Rattle.line_diagnosis.specs.declared.reason.Next.TheVariants.{Dot, Graph};
+
 use std::fmt;
 
 /// The part of a statement that may come next (RDF 1.1 N-Quads, section 4, [2] statement).
@@ -140,7 +143,9 @@ fn is_term(found: Found) -> bool {
 }
 
 /// Returns the text for a dot that is missing, or None if something else is.
-pub(crate) fn missing_dot(next: Next, found: Found) -> Option<&'static str> {
+pub(crate) fn missing_dot(next: Next, found: Found) -> Option<&'static str>
+    ensures before { OnSome result ((next ≡ Graph) ⊎ (next ≡ Dot)) }
+{
     match (next, found) {
         (Next::Graph | Next::Dot, Found::LineEnd) => Some(
             "missing '.' at the end of the statement",

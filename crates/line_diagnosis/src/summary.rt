@@ -1,5 +1,8 @@
 //! The reason of a malformed line, without what was found in the line. Lines are counted by it.
 
+ghost use Rattle.line_diagnosis.specs.Summary.{DifferInFound};
+ghost use Rattle.line_diagnosis.specs.declared.reason.Reason.TheVariants.{Unexpected};
+
 use crate::reason::{Found, Next, Reason, expected, missing_dot, write_char};
 use std::fmt;
 
@@ -11,14 +14,11 @@ use std::fmt;
 #[derive(Clone, Copy, PartialEq, Eq)]
 pub struct Summary {
     /// The reason, with one representative for all that may be found.
-    reason: Reason,
+    pub reason: Reason,
 }
 
 /// Returns one of the things that may be found in place of a part, for all with the same words.
 fn representative(next: Next, found: Found) -> Found {
-    if missing_dot(next, found).is_some() {
-        return found;
-    }
     let words = expected(next, found);
     for other in [Found::Char(' '), Found::Iri] {
         if expected(next, other) == words {
@@ -26,6 +26,17 @@ fn representative(next: Next, found: Found) -> Found {
         }
     }
     Found::LineEnd
+}
+
+/// Returns the reason for something in place of a part, one for all with the same words. A missing dot has one reason, with
+/// a graph name before it or without.
+fn unexpected(next: Next, found: Found) -> Reason
+    ensures same { DifferInFound (Unexpected next found) result }
+{
+    match missing_dot(next, found) {
+        Some(_) => Reason::Unexpected(Next::Graph, found),
+        None => Reason::Unexpected(next, representative(next, found)),
+    }
 }
 
 /// Returns words without those that announce what was found.
@@ -40,14 +51,13 @@ fn without_found(words: &str) -> &str {
 
 impl Reason {
     /// Returns the reason without what was found in the line.
-    pub fn summary(self) -> Summary {
+    pub fn summary(self) -> Summary
+        ensures same { DifferInFound self result.reason }
+    {
         let any = Found::LineEnd;
         let reason = match self {
             Reason::InvalidUtf8(_) => Reason::InvalidUtf8(0),
-            Reason::Unexpected(next, found) => Reason::Unexpected(
-                next,
-                representative(next, found),
-            ),
+            Reason::Unexpected(next, found) => unexpected(next, found),
             Reason::NoScheme(_) => Reason::NoScheme(any),
             Reason::UnknownEscape(_) => Reason::UnknownEscape(any),
             Reason::NoDigit(_) => Reason::NoDigit(any),

@@ -1,6 +1,6 @@
 -- The list of a document, piece after piece.
-use Rattle.std.proofs.Common.{◌≡◌, ◌⊎◌, ℕ, zero, suc, ◌+◌, ◌-◌, ◌≤◌, ◌<◌, List, [], ◌∷◌, ◌++◌, length, map, take, Some, refl, sym, ap, subst, ◌∙◌, append_assoc, append-nil, length-append, arith, inl, inr, get_or}
-use Rattle.std.specs.List.{All, AllZip, slice_get}
+use Rattle.std.proofs.Common.{◌≡◌, ◌⊎◌, ℕ, zero, suc, ◌+◌, ◌-◌, ◌≤◌, ◌<◌, List, [], ◌∷◌, ◌++◌, length, map, take, refl, sym, ap, subst, ◌∙◌, append_assoc, append-nil, length-append, arith, inl, inr, get_or}
+use Rattle.std.specs.List.{All, AllZip}
 use Rattle.std.proofs.lemmas.Bool.{cases_lt}
 use Rattle.std.proofs.Math.Seq.{take-append-add}
 use Rattle.std.proofs.lemmas.List.{take-take, take-map, length-map, length-take, take_all, take-append-le, map-append, take_more}
@@ -9,9 +9,8 @@ use Rattle.malformed_lines.specs.declared.piece_list.FoundLine.{FoundLine}
 use Rattle.malformed_lines.specs.declared.piece_list.PieceList.{PieceList}
 use Rattle.malformed_lines.specs.declared.document_list.MalformedLine.{MalformedLine}
 use Rattle.malformed_lines.specs.declared.document_list.MalformedLines.{MalformedLines}
-use Rattle.malformed_lines.specs.Malformed.{AreKept, AreMalformedFrom, IsCopy, IsFound, IsListOf, IsListed, IsShown, most_shown}
-use Rattle.malformed_lines.proofs.MalformedLaws.{numbers_join, numbers_from}
-use Rattle.malformed_lines.proofs.ListSteps.{still_at}
+use Rattle.malformed_lines.specs.Malformed.{AreKept, AreMalformedFrom, IsCopy, IsFound, IsListOf, IsListed, IsShown, NameLinesFrom, most_shown}
+use Rattle.malformed_lines.proofs.MalformedLaws.{after_all, numbers_join, numbers_from, still_at}
 
 -- the first lines are copied
 pub record IsKeptUpTo (before : ℕ) (found : List FoundLine) (old new : List MalformedLine) (i : ℕ) : Type 0 where
@@ -106,10 +105,6 @@ all_taken P zero xs h = λ k d l. absurd (omega arith)
 all_taken P (suc c) [] h = λ k d l. absurd (omega arith)
 all_taken P (suc c) (x ∷ xs) h = All-append P (x ∷ []) (take c xs) (single P x (h 0 x (omega arith))) (all_taken P c xs (λ k d l. h (suc k) d (omega (arith, l))))
 
-after_all : (before after : List (List ℕ)) (k : ℕ) (line : List ℕ) → slice_get after k ≡ Some line → slice_get (before ++ after) (length before + k) ≡ Some line
-after_all [] after k line h = let e : 0 + k ≡ k = omega arith in rw e h
-after_all (l ∷ before) after k line h = let e : suc (length before) + k ≡ suc (length before + k) = omega arith in rw e (after_all before after k line h)
-
 -- copies of lines of a piece are lines of the document
 all_copies : (before after : List (List ℕ)) (n : ℕ) (found : List FoundLine) (copies : List MalformedLine) → n ≡ length before → AllZip (IsCopy n) found copies
     → All (IsFound after) found → All (IsShown (before ++ after)) copies
@@ -137,9 +132,9 @@ still_shown a b shown h = λ k d l. let s = h k d l in record {
 
 -- the list of a piece, added to that of the lines before
 pub doc_join : (before after : List (List ℕ)) (old new : MalformedLines) (piece : PieceList) → IsListed before old → IsListOf after piece
-    → AreKept old.lines piece.shown.items old.shown.items new.shown.items → new.total ≡ old.total + piece.total → new.lines ≡ old.lines + piece.lines
-    → IsListed (before ++ after) new
-doc_join before after old new piece h p k t n =
+    → AreKept old.lines piece.shown.items old.shown.items new.shown.items → NameLinesFrom 1 (before ++ after) new.reasons.counts.items
+    → new.total ≡ old.total + piece.total → new.lines ≡ old.lines + piece.lines → IsListed (before ++ after) new
+doc_join before after old new piece h p k names t n =
     let number = λ (s : MalformedLine). s.number in
     let place = λ (f : FoundLine). f.place in
     let moved = λ (i : ℕ). (old.lines + 1) + i in
@@ -172,6 +167,7 @@ doc_join before after old new piece h p k t n =
       malformed = numbers_join 1 before after h.numbers y h.malformed (subst (λ (m : ℕ). AreMalformedFrom m after y) (sym first) (numbers_from (old.lines + 1) 0 after p.places p.malformed));
       shown = ap (map number) k.added ∙ map-append number old.shown.items k.copies ∙ ap (λ (z : List ℕ). z ++ map number k.copies) front ∙ ap (λ (z : List ℕ). take most_shown h.numbers ++ z) back ∙ shown_join h.numbers y c all few short;
       each = subst (λ (z : List MalformedLine). All (IsShown (before ++ after)) z) (sym k.added) (All-append (IsShown (before ++ after)) old.shown.items k.copies (still_shown before after old.shown.items h.each) (all_copies before after old.lines (take c piece.shown.items) k.copies h.count k.each (all_taken (IsFound after) c piece.shown.items p.found)));
+      named = names;
       total = omega (arith, t, h.total, p.total, length-append h.numbers y, length-map p.places moved);
       count = omega (arith, n, h.count, p.count, length-append before after);
     }

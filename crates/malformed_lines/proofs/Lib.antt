@@ -1,5 +1,5 @@
-pub mod CountLaws
 pub mod MalformedLaws
+pub mod CountLaws
 pub mod ListSteps
 pub mod AddingSteps
 mod FirstBytes

@@ -1,5 +1,5 @@
 -- The list of a piece, line after line.
-use Rattle.std.proofs.Common.{◌≡◌, ℕ, zero, suc, ◌+◌, ◌≤◌, ◌<◌, List, [], ◌∷◌, ◌++◌, length, map, take, Option, Some, refl, sym, ap, subst, ◌∙◌, append_assoc, append-nil, length-append, arith, inl, inr}
+use Rattle.std.proofs.Common.{◌≡◌, ℕ, ◌+◌, ◌≤◌, ◌<◌, List, [], ◌∷◌, ◌++◌, length, map, take, Option, Some, refl, sym, ap, subst, ◌∙◌, append_assoc, append-nil, length-append, arith, inl, inr}
 use Rattle.std.specs.Prelude.{Vec}
 use Rattle.std.specs.Global.{Global}
 use Rattle.std.specs.List.{All, slice_get}
@@ -10,15 +10,14 @@ use Rattle.nquads_core.specs.Grammar.{HasStatement, IsMalformed}
 use Rattle.nquads_core.specs.Lines.{lines}
 use Rattle.nquads_core.specs.Pieces.{HaveStatements}
 use Rattle.nquads_scan.specs.PlainLines.{AreLinesBefore}
+use Rattle.line_diagnosis.specs.declared.diagnosis.Diagnosis.{Diagnosis}
+use Rattle.line_diagnosis.specs.Explained.{IsExplained}
+use Rattle.malformed_lines.specs.declared.reason_counts.ReasonCount.{ReasonCount}
 use Rattle.malformed_lines.specs.declared.piece_list.FoundLine.{FoundLine}
 use Rattle.malformed_lines.specs.declared.piece_list.PieceList.{PieceList}
-use Rattle.malformed_lines.specs.Malformed.{AreMalformedFrom, IsFound, IsKept, IsListOf, most_shown}
-use Rattle.malformed_lines.proofs.MalformedLaws.{malformed_more, well_formed_more}
-
-pub still_at : (a b : List (List ℕ)) (k : ℕ) (line : List ℕ) → slice_get a k ≡ Some line → slice_get (a ++ b) k ≡ Some line
-still_at [] b k line h = absurd cc
-still_at (l ∷ a) b zero line h = h
-still_at (l ∷ a) b (suc k) line h = still_at a b k line h
+use Rattle.malformed_lines.specs.Malformed.{AreMalformedFrom, IsFound, IsKept, IsListOf, NameLinesFrom, NamesLineFrom, most_shown}
+use Rattle.malformed_lines.proofs.CountLaws.{named_still}
+use Rattle.malformed_lines.proofs.MalformedLaws.{malformed_more, still_at, well_formed_more}
 
 pub at_end : (a : List (List ℕ)) (line : List ℕ) (b : List (List ℕ)) → slice_get (a ++ line ∷ b) (length a) ≡ Some line
 at_end [] line b = refl
@@ -44,10 +43,26 @@ one_found before line f p b = λ k d l.
     let z : k ≡ 0 = omega arith in
     rw (z, p, b) (at_end before line [])
 
+-- a new count names the line after these
+pub named_here : (before : List (List ℕ)) (line : List ℕ) (old : PieceList) (d : Diagnosis) (c : ReasonCount) → IsListOf before old → IsMalformed line → IsExplained line d
+    → c.first ≡ old.lines → c.column ≡ d.column → c.counted ≡ d.counted → NamesLineFrom 0 (before ++ line ∷ []) c
+named_here before line old d c h m x f o u = record {
+  place = length before;
+  number = omega (arith, f, h.count);
+  line = line;
+  at_place = at_end before line [];
+  malformed = m;
+  diagnosis = d;
+  explained = x;
+  column = o;
+  counted = u;
+}
+
 -- the line after these is malformed
 pub one_malformed : (before : List (List ℕ)) (line : List ℕ) (old new : PieceList) → IsListOf before old → IsMalformed line
-    → IsKept old.shown.items old.lines line new.shown.items → new.total ≡ old.total + 1 → new.lines ≡ old.lines + 1 → IsListOf (before ++ line ∷ []) new
-one_malformed before line old new h m k t n =
+    → IsKept old.shown.items old.lines line new.shown.items → NameLinesFrom 0 (before ++ line ∷ []) new.reasons.counts.items
+    → new.total ≡ old.total + 1 → new.lines ≡ old.lines + 1 → IsListOf (before ++ line ∷ []) new
+one_malformed before line old new h m k names t n =
     let place = λ (f : FoundLine). f.place in
     let places' : List ℕ = h.places ++ old.lines ∷ [] in
     let here : old.lines ≡ 0 + length before = omega (arith, h.count) in
@@ -62,6 +77,7 @@ one_malformed before line old new h m k t n =
         malformed = bad;
         shown = ap (map place) a.1.1 ∙ map-append place old.shown.items (a.1.0 ∷ []) ∙ ap (λ (y : List ℕ). y ++ place a.1.0 ∷ []) h.shown ∙ ap (λ (y : ℕ). take most_shown h.places ++ y ∷ []) a.1.2 ∙ sym (shown_more h.places old.lines (subst (λ (y : ℕ). y < most_shown) same a.0));
         found = subst (λ (y : List FoundLine). All (IsFound (before ++ line ∷ [])) y) (sym a.1.1) (All-append (IsFound (before ++ line ∷ [])) old.shown.items (a.1.0 ∷ []) still (one_found before line a.1.0 (a.1.2 ∙ h.count) a.1.3));
+        named = names;
         total = total;
         count = count;
       }
@@ -70,6 +86,7 @@ one_malformed before line old new h m k t n =
         malformed = bad;
         shown = ap (map place) b.1 ∙ h.shown ∙ sym (shown_full h.places old.lines (subst (λ (y : ℕ). most_shown ≤ y) same b.0));
         found = subst (λ (y : List FoundLine). All (IsFound (before ++ line ∷ [])) y) (sym b.1) still;
+        named = names;
         total = total;
         count = count;
       }
@@ -77,8 +94,8 @@ one_malformed before line old new h m k t n =
 
 -- the line after these is well-formed
 pub one_well_formed : (before : List (List ℕ)) (line : List ℕ) (q : Option QuadParts) (old new : PieceList) → IsListOf before old → HasStatement line q
-    → new.shown ≡ old.shown → new.total ≡ old.total → new.lines ≡ old.lines + 1 → IsListOf (before ++ line ∷ []) new
-one_well_formed before line q old new h s e t n =
+    → new.shown ≡ old.shown → new.reasons.counts.items ≡ old.reasons.counts.items → new.total ≡ old.total → new.lines ≡ old.lines + 1 → IsListOf (before ++ line ∷ []) new
+one_well_formed before line q old new h s e r t n =
     let items = λ (v : Vec FoundLine Global). v.items in
     let i : new.shown.items ≡ old.shown.items = ap items e in
     record {
@@ -86,6 +103,7 @@ one_well_formed before line q old new h s e t n =
       malformed = well_formed_more 0 before h.places line q h.malformed s;
       shown = ap (map (λ (f : FoundLine). f.place)) i ∙ h.shown;
       found = subst (λ (y : List FoundLine). All (IsFound (before ++ line ∷ [])) y) (sym i) (still_found before (line ∷ []) old.shown.items h.found);
+      named = subst (NameLinesFrom 0 (before ++ line ∷ [])) (sym r) (named_still 0 before (line ∷ []) old.reasons.counts.items h.named);
       total = t ∙ h.total;
       count = omega (arith, n, h.count, length-append before (line ∷ []));
     }

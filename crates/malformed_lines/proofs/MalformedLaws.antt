@@ -1,5 +1,6 @@
 -- Lists of malformed lines, line after line and piece after piece.
-use Rattle.std.proofs.Common.{◌≡◌, ℕ, suc, ◌+◌, List, [], ◌∷◌, ◌++◌, length, map, Option, refl, ap, subst, append-nil, arith, inl, inr}
+use Rattle.std.proofs.Common.{◌≡◌, ℕ, zero, suc, ◌+◌, List, [], ◌∷◌, ◌++◌, length, map, Option, Some, refl, ap, subst, append-nil, arith, inl, inr}
+use Rattle.std.specs.List.{slice_get}
 use Rattle.rdf_core.specs.QuadParts.{QuadParts}
 use Rattle.nquads_core.specs.Grammar.{HasStatement, IsMalformed}
 use Rattle.nquads_core.specs.Pieces.{HaveStatements}
@@ -39,3 +40,14 @@ numbers_from m n (line ∷ a) x h =
 pub none_malformed : (n : ℕ) (ls : List (List ℕ)) (quads : List QuadParts) → HaveStatements ls quads → AreMalformedFrom n ls []
 none_malformed n [] quads h = refl
 none_malformed n (line ∷ ls) quads h = inr ((h.0, h.2), none_malformed (n + 1) ls h.1 h.4)
+
+-- ---- the line at a place
+
+pub still_at : (a b : List (List ℕ)) (k : ℕ) (line : List ℕ) → slice_get a k ≡ Some line → slice_get (a ++ b) k ≡ Some line
+still_at [] b k line h = absurd cc
+still_at (l ∷ a) b zero line h = h
+still_at (l ∷ a) b (suc k) line h = still_at a b k line h
+
+pub after_all : (before after : List (List ℕ)) (k : ℕ) (line : List ℕ) → slice_get after k ≡ Some line → slice_get (before ++ after) (length before + k) ≡ Some line
+after_all [] after k line h = let e : 0 + k ≡ k = omega arith in rw e h
+after_all (l ∷ before) after k line h = let e : suc (length before) + k ≡ suc (length before + k) = omega arith in rw e (after_all before after k line h)

@@ -2,6 +2,7 @@
 ghost use Rattle.std.specs.Prelude.{◌≡◌, ◌+◌, ◌<◌, ◌∷◌, ◌++◌, ◌^◌, [], List, ℕ, length, IfOk, OnOk};
 ghost use Rattle.rdf_core.specs.QuadParts.{QuadParts};
 ghost use Rattle.nquads_core.specs.Grammar.{IsMalformed};
+ghost use Rattle.line_diagnosis.specs.Explained.{IsExplained};
 ghost use Rattle.nquads_core.specs.Lines.{lines};
 ghost use Rattle.nquads_core.specs.Pieces.{HaveStatements};
 ghost use Rattle.malformed_lines.specs.Malformed.{IsKept, IsListOf};
@@ -56,7 +57,8 @@ impl<'d> PieceList<'d> {
     ) -> Result<(), AllocError>
         requires few { self.old.lines < 2 ^ 63 }
         ensures listed { OnOk result ((before : List (List ℕ)) → IsListOf before self.old
-            → IsMalformed line.now → IsListOf (before ++ line.now ∷ []) self.new) }
+            → IsMalformed line.now → IsExplained line.now diagnosis.now
+            → IsListOf (before ++ line.now ∷ []) self.new) }
         ensures lines { OnOk result (self.new.lines ≡ self.old.lines + 1) }
     {
         keep(&mut self.shown, self.lines, line, is_cut)?;

@@ -1,5 +1,6 @@
 //! The place in a malformed line of which perhaps only the first bytes are kept.
 ghost use Rattle.std.specs.Prelude.{◌≡◌, ℕ, List, true, IfOk, IfNone, IfSome};
+ghost use Rattle.line_diagnosis.specs.Explained.{IsExplained};
 ghost use Rattle.line_diagnosis.specs.Place.{IsPlace, IsWellFormed};
 ghost use Rattle.malformed_lines.specs.Malformed.{IsKeptOf};
 
@@ -20,6 +21,8 @@ impl MalformedLine {
     pub fn diagnosis(&self, alloc: Global) -> Result<Option<Diagnosis>, AllocError>
         ensures place { IfOk result (λ found. IfSome found
             (λ d. (line : List ℕ) → IsKeptOf line self.now → IsPlace line d.offset)) }
+        ensures explained { IfOk result
+            (λ found. IfSome found (IsExplained self.now.bytes.items)) }
         ensures known { IfOk result (λ found. IfNone found
             (self.now.is_whole ≡ true → IsWellFormed self.now.bytes.items)) }
     {

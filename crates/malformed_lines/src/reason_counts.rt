@@ -1,6 +1,7 @@
 //! How often each reason occurs, and where first.
-ghost use Rattle.std.specs.Prelude.{◌≡◌, ◌+◌, ◌≤◌, ◌<◌, ◌^◌, [], IfOk, OnOk, OnErr, length, vec_len, vec_capacity};
+ghost use Rattle.std.specs.Prelude.{◌≡◌, ◌+◌, ◌≤◌, ◌<◌, ◌^◌, ◌++◌, [], List, ℕ, IfOk, OnOk, OnErr, length, vec_len, vec_capacity};
 ghost use Rattle.malformed_lines.specs.Counts.{total_of};
+ghost use Rattle.malformed_lines.specs.Malformed.{NameLinesFrom, NamesLineFrom};
 
 use line_diagnosis::{Counted, Summary};
 use std::alloc::{AllocError, Global};
@@ -65,6 +66,8 @@ impl ReasonCounts {
         requires room { vec_len self.old.counts < vec_capacity self.old.counts }
         ensures total { total_of self.new.counts.items
             ≡ total_of self.old.counts.items + more.count }
+        ensures named { (n : ℕ) (lines : List (List ℕ)) → NameLinesFrom n lines self.old.counts.items
+            → NamesLineFrom n lines more → NameLinesFrom n lines self.new.counts.items }
         ensures few { vec_len self.new.counts ≤ vec_len self.old.counts + 1 }
         ensures capacity { vec_capacity self.new.counts ≡ vec_capacity self.old.counts }
     {
@@ -82,6 +85,9 @@ impl ReasonCounts {
     /// `AllocError` if an allocation fails. The counts are unchanged.
     pub(crate) fn add(&mut self, more: ReasonCount) -> Result<(), AllocError>
         requires countable { total_of self.old.counts.items + more.count < 2 ^ 128 }
+        ensures named { OnOk result ((n : ℕ) (lines : List (List ℕ))
+            → NameLinesFrom n lines self.old.counts.items → NamesLineFrom n lines more
+            → NameLinesFrom n lines self.new.counts.items) }
         ensures total { OnOk result (total_of self.new.counts.items
             ≡ total_of self.old.counts.items + more.count) }
         ensures unchanged { OnErr result (self.new.counts.items ≡ self.old.counts.items) }
@@ -97,6 +103,10 @@ impl ReasonCounts {
     /// `AllocError` if an allocation fails. The counts are unchanged.
     pub(crate) fn add_all(&mut self, before: u128, more: &[ReasonCount]) -> Result<(), AllocError>
         requires countable { total_of self.old.counts.items + total_of more.now < 2 ^ 128 }
+        ensures named { OnOk result ((front back : List (List ℕ)) → before ≡ length front
+            → length front + length back < 2 ^ 128
+            → NameLinesFrom 1 (front ++ back) self.old.counts.items → NameLinesFrom 0 back more.now
+            → NameLinesFrom 1 (front ++ back) self.new.counts.items) }
         ensures total { OnOk result (total_of self.new.counts.items
             ≡ total_of self.old.counts.items + total_of more.now) }
         ensures unchanged { OnErr result (self.new.counts.items ≡ self.old.counts.items) }

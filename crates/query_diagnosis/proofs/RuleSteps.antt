@@ -8,7 +8,7 @@ use Rattle.sparql_lexer.specs.Terminal.{Terminal, terminal_of, terminals}
 use Rattle.sparql_read.specs.declared.fault.QueryFault.{QueryFault}
 use Rattle.sparql_read.specs.declared.fault.QueryFault.TheVariants.{Syntax, UndefinedPrefix, RelativeIri, BindScope, BlankReuse, TooDeep, Memory}
 use Rattle.sparql_read.specs.Depth.{is_too_deep}
-use Rattle.sparql_read.specs.Prologue.{declarations, has_undefined_prefix, lacks_declaration}
+use Rattle.sparql_grammar.specs.Prologue.{declarations, has_undefined_prefix, lacks_declaration}
 use Rattle.sparql_read.specs.Rejection.{Applies}
 use Rattle.sparql_read.specs.RelativeIri.{has_relative_iri}
 use Rattle.query_diagnosis.specs.Place.{IsFirst, IsPlace, IsRejectedAt, Rejects}

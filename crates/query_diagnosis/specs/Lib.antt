@@ -4,3 +4,4 @@ pub mod Position
 pub mod TerminalPlace
 pub mod Place
 pub mod Report
+pub mod Symbols

@@ -3,7 +3,7 @@ use Rattle.std.specs.Prelude.{◌≡◌, ℕ, ◌+◌, ◌≤◌, ◌<◌, List,
 use Rattle.sparql_lexer.specs.Terminal.{Terminal}
 use Rattle.sparql_lexer.specs.Scan.{Scans}
 use Rattle.sparql_read.specs.Depth.{is_too_deep}
-use Rattle.sparql_read.specs.Prologue.{declarations, has_undefined_prefix, lacks_declaration}
+use Rattle.sparql_grammar.specs.Prologue.{declarations, has_undefined_prefix, lacks_declaration}
 use Rattle.sparql_read.specs.RelativeIri.{has_relative_iri}
 use Rattle.sparql_read.specs.declared.fault.QueryFault.{QueryFault}
 use Rattle.sparql_read.specs.declared.fault.QueryFault.TheVariants.{Syntax, UndefinedPrefix, RelativeIri, BindScope, BlankReuse, TooDeep, Memory}

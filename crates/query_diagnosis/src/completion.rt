@@ -1,5 +1,8 @@
 //! An end of a query for each state of the machine.
 
+ghost use Rattle.std.specs.Prelude.{◌≡◌, ◌≤◌, length, nat_eq, IfOk, OnOk};
+ghost use Rattle.query_diagnosis.specs.Symbols.{AreEnds, is_optional, may_end};
+
 use crate::machine::Machine;
 use crate::symbol::Symbol;
 use sparql_lexer::{Keyword, Kind, Sign, Token};
@@ -82,7 +85,9 @@ const UNDEF: Token<'static> = Token {
 
 /// Returns terminals that a symbol derives. They are not always the fewest, but there are none if the
 /// symbol derives the empty text.
-pub fn end_of(symbol: Symbol) -> &'static [Token<'static>] {
+pub fn end_of(symbol: Symbol) -> &'static [Token<'static>]
+    ensures empty { nat_eq (length result.now) 0 ≡ is_optional symbol }
+{
     match symbol {
         Symbol::Query => &[SELECT, STAR, OPEN_BRACE, CLOSE_BRACE],
         Symbol::Namespace => &[PREFIX],
@@ -118,35 +123,55 @@ pub fn end_of(symbol: Symbol) -> &'static [Token<'static>] {
     }
 }
 
+/// Appends the values that a row of VALUES lacks.
+fn push_cells(end: &mut Vec<Token<'static>>, machine: &Machine) -> Result<(), AllocError>
+    ensures more { OnOk result (length end.old.items ≤ length end.new.items) }
+{
+    'cells: for _ in machine.cells..machine.width {
+        end.push(UNDEF)?;
+    }
+    Ok(())
+}
+
 /// Appends terminals that a symbol of the machine derives.
 fn push_end(
     end: &mut Vec<Token<'static>>,
     machine: &Machine,
     symbol: Symbol,
-) -> Result<(), AllocError> {
+) -> Result<(), AllocError>
+    ensures ends { OnOk result (AreEnds (is_optional symbol) end.old.items end.new.items) }
+{
     if matches!(symbol, Symbol::Cells) {
-        for _ in machine.cells..machine.width {
-            end.push(UNDEF)?;
-        }
+        push_cells(end, machine)?;
+        end.push(CLOSE)?;
+        return Ok(());
     }
     end.extend_from_slice(end_of(symbol))
 }
 
 /// Appends terminals that the symbols of the machine derive.
-fn push_ends(end: &mut Vec<Token<'static>>, machine: &Machine) -> Result<(), AllocError> {
+fn push_ends(end: &mut Vec<Token<'static>>, machine: &Machine) -> Result<(), AllocError>
+    ensures ends { OnOk result
+        (AreEnds (may_end machine.now.stack.items) end.old.items end.new.items) }
+{
     let stack: &[Symbol] = &machine.stack;
-    let count = stack.len();
-    for i in 0..count {
-        push_end(end, machine, stack[count - 1 - i])?;
+    let mut place = stack.len();
+    while place > 0 {
+        place -= 1;
+        push_end(end, machine, stack[place])?;
     }
     Ok(())
 }
 
-/// Returns terminals that complete a query, given the state of the machine after its beginning.
+/// Returns terminals that complete a query, given the state of the machine after its beginning. There are none if the
+/// query may end there.
 ///
 /// # Errors
 /// `AllocError` if an allocation fails.
-pub fn completion(alloc: Global, machine: &Machine) -> Result<Vec<Token<'static>>, AllocError> {
+pub fn completion(alloc: Global, machine: &Machine) -> Result<Vec<Token<'static>>, AllocError>
+    ensures empty { IfOk result
+        (λ end. nat_eq (length end.items) 0 ≡ may_end machine.now.stack.items) }
+{
     let mut end: Vec<Token<'static>> = Vec::new(alloc);
     push_ends(&mut end, machine)?;
     Ok(end)

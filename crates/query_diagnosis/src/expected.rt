@@ -1,5 +1,7 @@
 //! The terminals that may come at a place, as text.
 
+ghost use Rattle.std.specs.Prelude.{◌≡◌, ◌++◌, List, ℕ, OnOk, codes, string_bytes};
+
 use crate::machine::{may_come, may_end};
 use crate::symbol::Symbol;
 use sparql_lexer::{Keyword, Kind, Sign};
@@ -143,13 +145,22 @@ fn add_all(list: &mut Vec<&'static str>, stack: &[Symbol]) -> Result<(), AllocEr
     Ok(())
 }
 
+/// Returns what separates an item of a list from those before it.
+fn separator(i: usize, count: usize) -> &'static str {
+    match i {
+        0 => "",
+        _ if i < count.saturating_sub(1) => ", ",
+        _ => " or ",
+    }
+}
+
 /// Appends texts as `a, b or c`.
-fn push_items(out: &mut String, items: &[&str]) -> Result<(), AllocError> {
-    let count = items.len();
-    for i in 0..count {
-        if i > 0 {
-            out.push_str(if i + 1 == count { " or " } else { ", " })?;
-        }
+fn push_items(out: &mut String, items: &[&str]) -> Result<(), AllocError>
+    ensures appended { OnOk result ((text : List ℕ)
+        × (string_bytes out.new ≡ string_bytes out.old ++ text)) }
+{
+    for i in 0..items.len() {
+        out.push_str(separator(i, items.len()))?;
         out.push_str(items[i])?;
     }
     Ok(())
@@ -159,7 +170,10 @@ fn push_items(out: &mut String, items: &[&str]) -> Result<(), AllocError> {
 ///
 /// # Errors
 /// `AllocError` if an allocation fails. `out` may then have a part of the text.
-pub fn push_expected(out: &mut String, stack: &[Symbol]) -> Result<(), AllocError> {
+pub fn push_expected(out: &mut String, stack: &[Symbol]) -> Result<(), AllocError>
+    ensures appended { OnOk result ((items : List ℕ)
+        × (string_bytes out.new ≡ string_bytes out.old ++ (codes "expected " ++ items))) }
+{
     let mut list = Vec::new(*out.allocator());
     add_all(&mut list, stack)?;
     out.push_str("expected ")?;

@@ -1,5 +1,8 @@
 //! The unsupported feature of SPARQL that a query uses at a place.
 
+ghost use Rattle.std.specs.Prelude.{◌≡◌, ◌≢◌, ◌≤◌, [], None, Some, length};
+ghost use Rattle.query_diagnosis.specs.declared.hint.Hint.TheVariants.{ByteOrderMark, EmptyQuery};
+
 use crate::hint::Hint;
 use crate::machine::{kind_at, may_come, may_end};
 use crate::symbol::Symbol;
@@ -169,7 +172,10 @@ fn follows_filter(tokens: &[Token<'_>], at: usize) -> bool {
 
 /// Returns the hint for a terminal that is not allowed with these symbols on the stack, or for the
 /// end of a text without terminals.
-pub fn hint_at(tokens: &[Token<'_>], at: usize, stack: &[Symbol]) -> Option<Hint> {
+pub fn hint_at(tokens: &[Token<'_>], at: usize, stack: &[Symbol]) -> Option<Hint>
+    ensures empty { tokens.now ≡ [] → result ≡ Some EmptyQuery }
+    ensures ended { tokens.now ≢ [] → length tokens.now ≤ at → result ≡ None }
+{
     if tokens.is_empty() {
         return Some(Hint::EmptyQuery);
     }
@@ -187,7 +193,10 @@ pub fn hint_at(tokens: &[Token<'_>], at: usize, stack: &[Symbol]) -> Option<Hint
 }
 
 /// Returns the hint for a character that begins no terminal, with these symbols on the stack.
-pub fn hint_at_char(c: char, stack: &[Symbol]) -> Option<Hint> {
+pub fn hint_at_char(c: char, stack: &[Symbol]) -> Option<Hint>
+    ensures mark { c ≡ 0xFEFF → result ≡ Some ByteOrderMark }
+    ensures other { c ≢ 0xFEFF → result ≢ Some ByteOrderMark }
+{
     match c {
         '[' => Some(Hint::PropertyList),
         '\u{FEFF}' => Some(Hint::ByteOrderMark),

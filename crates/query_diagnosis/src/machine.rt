@@ -1,10 +1,11 @@
 //! A machine that reads terminals up to the first after which no query continues.
 
-ghost use Rattle.std.specs.Prelude.{◌≡◌, ◌≤◌, length, take, true, IfOk};
+ghost use Rattle.std.specs.Prelude.{◌≡◌, ◌≢◌, ◌≤◌, ℕ, length, drop, take, true, IfOk, IfSome, MatchBool};
 ghost use Rattle.sparql_lexer.specs.Terminal.{terminals};
 ghost use Rattle.query_diagnosis.specs.QueryPrefix.{IsQueryPrefix, IsSomeQuery};
+ghost use Rattle.query_diagnosis.specs.Symbols.{IsNext, kind_at, may_end, name_of};
 
-use crate::completion::completion;
+use crate::completion::{completion, end_of};
 use crate::steps::step;
 use crate::symbol::{Step, Symbol};
 use sparql_expression::ParseFault;
@@ -57,7 +58,9 @@ pub struct Machine {
 
 /// Returns the place of the symbol that takes a terminal of this kind, or None if none does. The
 /// symbol is the top of the stack, or one below symbols that derive the empty text.
-fn taker(stack: &[Symbol], kind: Kind) -> Option<usize> {
+fn taker(stack: &[Symbol], kind: Kind) -> Option<usize>
+    ensures next { IfSome result (IsNext stack.now) }
+{
     let mut place = stack.len();
     while place > 0 {
         place -= 1;
@@ -71,23 +74,23 @@ fn taker(stack: &[Symbol], kind: Kind) -> Option<usize> {
 }
 
 /// Returns whether a terminal of this kind may come.
-pub fn may_come(stack: &[Symbol], kind: Kind) -> bool {
+pub fn may_come(stack: &[Symbol], kind: Kind) -> bool
+    ensures next { result ≡ true → (place : ℕ) × IsNext stack.now place }
+{
     taker(stack, kind).is_some()
 }
 
 /// Returns whether the query may end.
-pub fn may_end(stack: &[Symbol]) -> bool {
-    // No symbol takes a word that is not a keyword, so this kind represents the end here.
-    for symbol in stack {
-        if !matches!(step(*symbol, Kind::Word), Step::Skip) {
-            return false;
-        }
-    }
-    true
+pub fn may_end(stack: &[Symbol]) -> bool
+    ensures value { result ≡ may_end stack.now }
+{
+    stack.iter().all(|symbol| end_of(*symbol).is_empty())
 }
 
 /// Returns the kind of the terminal at a place, or None if there is no terminal.
-pub fn kind_at(tokens: &[Token<'_>], at: usize) -> Option<Kind> {
+pub fn kind_at(tokens: &[Token<'_>], at: usize) -> Option<Kind>
+    ensures value { result ≡ kind_at tokens.now at }
+{
     match tokens.get(at) {
         Some(token) => Some(token.kind),
         None => None,
@@ -110,9 +113,22 @@ fn is_repeated(tokens: &[Token<'_>], from: usize, at: usize) -> bool {
     false
 }
 
+/// Returns the name of a variable, without its `?` or `$`.
+fn name_of<'a>(variable: Token<'a>) -> &'a [char]
+    ensures value { result.now ≡ name_of variable.entry }
+{
+    match variable.text.split_first() {
+        Some((_, name)) => name,
+        None => &[],
+    }
+}
+
 /// Returns whether two variables have the same name, with `?` or `$`.
-pub fn is_same_name(a: Token<'_>, b: Token<'_>) -> bool {
-    a.text.get(1..) == b.text.get(1..)
+pub fn is_same_name(a: Token<'_>, b: Token<'_>) -> bool
+    ensures value { MatchBool result (name_of a.entry ≡ name_of b.entry)
+        (name_of a.entry ≢ name_of b.entry) }
+{
+    name_of(a) == name_of(b)
 }
 
 /// Returns whether an escape of the terminal denotes no character that is allowed there.

@@ -1,12 +1,17 @@
 //! The places at which a query that the grammar derives breaks one of the other rules. Each
 //! function returns the first terminal that breaks the rule, or None if there is none.
 
-ghost use Rattle.std.specs.Prelude.{◌≡◌, ◌≤◌, ◌+◌, false, IfOk, MatchOption};
+ghost use Rattle.std.specs.Prelude.{◌≡◌, ◌≤◌, ◌+◌, false, nat_eq, IfOk, IfSome, MatchOption, Some};
+ghost use Rattle.std.specs.List.{position, slice_get};
+ghost use Rattle.sparql_grammar.specs.Values.{prefix_of};
+ghost use Rattle.sparql_lexer.specs.declared.token.Kind.TheVariants.{BlankLabel};
+ghost use Rattle.sparql_lexer.specs.declared.token.Token.{Token};
 ghost use Rattle.sparql_lexer.specs.Terminal.{terminals};
 ghost use Rattle.sparql_read.specs.Depth.{is_too_deep, open_after};
-ghost use Rattle.sparql_read.specs.Prologue.{declarations, has_undefined_prefix, lacks_declaration};
+ghost use Rattle.sparql_grammar.specs.Prologue.{declarations, has_undefined_prefix, lacks_declaration};
 ghost use Rattle.sparql_read.specs.RelativeIri.{has_relative_iri};
 ghost use Rattle.query_diagnosis.specs.Place.{IsFirst};
+ghost use Rattle.query_diagnosis.specs.Symbols.{IsRepeated, IsSameVariable, kind_at, name_of};
 
 use crate::machine::{is_same_name, kind_at};
 use sparql_grammar::Declarations;
@@ -36,14 +41,21 @@ impl Breach {
     }
 }
 
+/// Returns the place of the first colon of a prefixed name.
+fn first_colon(name: &[char]) -> Option<usize>
+    ensures value { result ≡ position (λ c. nat_eq c 58) name.now }
+{
+    name.iter().position(|c| *c == ':')
+}
+
 /// Returns the part of a prefixed name before its first colon.
-pub fn prefix_of<'a>(name: &'a [char]) -> &'a [char] {
-    for i in 0..name.len() {
-        if name[i] == ':' {
-            return &name[..i];
-        }
+pub fn prefix_of<'a>(name: &'a [char]) -> &'a [char]
+    ensures value { result.now ≡ prefix_of name.now }
+{
+    match first_colon(name) {
+        Some(end) => &name[..end.min(name.len())],
+        None => name,
     }
-    name
 }
 
 /// Returns the place of the first prefixed name without a declaration among these.
@@ -134,7 +146,9 @@ struct Labels {
 
 impl Labels {
     /// Adds the label at a place. Returns a clash if it is in another basic graph pattern too.
-    fn add(&mut self, label: String, at: usize) -> Result<Option<Breach>, AllocError> {
+    fn add(&mut self, label: String, at: usize) -> Result<Option<Breach>, AllocError>
+        ensures here { IfOk result (λ found. IfSome found (λ b. b.at ≡ at)) }
+    {
         match self.seen.get(label.as_str()).copied() {
             Some((earlier, pattern)) if pattern != self.pattern => Ok(Some(Breach {
                 at,
@@ -154,7 +168,10 @@ impl Labels {
         alloc: Global,
         token: Token<'_>,
         at: usize,
-    ) -> Result<Option<Breach>, AllocError> {
+    ) -> Result<Option<Breach>, AllocError>
+        ensures here { IfOk result (λ found. IfSome found (λ b. b.at ≡ at)) }
+        ensures label { IfOk result (λ found. IfSome found (λ b. token.entry.kind ≡ BlankLabel)) }
+    {
         match token.kind {
             Kind::Sign(Sign::OpenBrace | Sign::CloseBrace) | Kind::Keyword(Keyword::Bind) => {
                 self.pattern = at;
@@ -171,7 +188,10 @@ impl Labels {
 ///
 /// # Errors
 /// `AllocError` if an allocation fails.
-pub fn reused_blank(alloc: Global, tokens: &[Token<'_>]) -> Result<Option<Breach>, AllocError> {
+pub fn reused_blank(alloc: Global, tokens: &[Token<'_>]) -> Result<Option<Breach>, AllocError>
+    ensures label { IfOk result
+        (λ found. IfSome found (λ b. kind_at tokens.now b.at ≡ Some BlankLabel)) }
+{
     let mut labels = Labels {
         seen: BTreeMap::new(alloc),
         pattern: 0,
@@ -233,7 +253,10 @@ fn find(tokens: &[Token<'_>], from: usize, kind: Kind) -> usize {
 }
 
 /// Returns the first of these places at which there is a variable of the same name.
-fn place_of(tokens: &[Token<'_>], places: &[usize], variable: Token<'_>) -> Option<usize> {
+fn place_of(tokens: &[Token<'_>], places: &[usize], variable: Token<'_>) -> Option<usize>
+    ensures same { IfSome result (λ place. (first : Token) × (slice_get tokens.now place ≡ Some first)
+        × (name_of first ≡ name_of variable.entry)) }
+{
     for place in places {
         if let Some(token) = tokens.get(*place) {
             if is_same_name(*token, variable) {
@@ -284,7 +307,9 @@ impl Scopes {
     }
 
     /// Returns the place in the open group that already binds the variable at a place.
-    fn earlier(&self, tokens: &[Token<'_>], at: usize) -> Option<usize> {
+    fn earlier(&self, tokens: &[Token<'_>], at: usize) -> Option<usize>
+        ensures same { IfSome result (λ place. IsSameVariable tokens.now at place) }
+    {
         let variable = tokens.get(at)?;
         let first = match self.frames.last() {
             Some(frame) => frame.first,
@@ -294,7 +319,9 @@ impl Scopes {
     }
 
     /// Reads BIND, and returns a clash of its variable.
-    fn add_bind(&mut self, tokens: &[Token<'_>], at: usize) -> Result<Option<Breach>, AllocError> {
+    fn add_bind(&mut self, tokens: &[Token<'_>], at: usize) -> Result<Option<Breach>, AllocError>
+        ensures repeated { IfOk result (λ found. IfSome found (IsRepeated tokens.now)) }
+    {
         let variable = find(tokens, at, Kind::Keyword(Keyword::As)).saturating_add(1);
         let earlier = self.earlier(tokens, variable);
         if earlier.is_some() {
@@ -309,7 +336,9 @@ impl Scopes {
     }
 
     /// Reads the terminal at a place, and returns a clash of the variable of BIND.
-    fn read(&mut self, tokens: &[Token<'_>], at: usize) -> Result<Option<Breach>, AllocError> {
+    fn read(&mut self, tokens: &[Token<'_>], at: usize) -> Result<Option<Breach>, AllocError>
+        ensures repeated { IfOk result (λ found. IfSome found (IsRepeated tokens.now)) }
+    {
         let Some(token) = tokens.get(at) else {
             return Ok(None);
         };
@@ -332,7 +361,9 @@ impl Scopes {
 ///
 /// # Errors
 /// `AllocError` if an allocation fails.
-pub fn bound_twice(alloc: Global, tokens: &[Token<'_>]) -> Result<Option<Breach>, AllocError> {
+pub fn bound_twice(alloc: Global, tokens: &[Token<'_>]) -> Result<Option<Breach>, AllocError>
+    ensures repeated { IfOk result (λ found. IfSome found (IsRepeated tokens.now)) }
+{
     let mut scopes = Scopes::new(alloc);
     for i in 0..tokens.len() {
         if i < scopes.next {

@@ -1,6 +1,10 @@
 //! The grammar as tables: the terminals that each symbol takes, and the symbols that replace it
 //! (SPARQL 1.1 Query Language, section 19.8).
 
+ghost use Rattle.std.specs.Prelude.{◌≡◌, true, false};
+ghost use Rattle.query_diagnosis.specs.Symbols.{is_optional};
+ghost use Rattle.query_diagnosis.specs.declared.symbol.Step.TheVariants.{Skip, Stop};
+
 use crate::completion::end_of;
 use crate::symbol::{Step, Symbol};
 use sparql_lexer::{Keyword, Kind, Sign};
@@ -597,7 +601,10 @@ fn replacement(rules: &[Rule], kind: Kind) -> Option<&'static [Symbol]> {
 }
 
 /// Returns the step of a symbol for a terminal of this kind.
-pub fn step(symbol: Symbol, kind: Kind) -> Step {
+pub fn step(symbol: Symbol, kind: Kind) -> Step
+    ensures skips { result ≡ Skip → is_optional symbol ≡ true }
+    ensures stops { result ≡ Stop → is_optional symbol ≡ false }
+{
     for rules in rules_of(symbol) {
         if let Some(first) = replacement(rules.0, kind) {
             return Step::Take(first, rules.1);

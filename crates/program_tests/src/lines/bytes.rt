@@ -7,7 +7,7 @@ pub(crate) const BYTES: &str = r##"
 spq: line 1, byte 17: invalid UTF-8: byte 0xE9
 <a:s> <a:p> "caf�" .
                 ^
-hint: if the input is Latin-1, convert it: iconv -f LATIN1 -t UTF-8 FILE | spq check
+hint: if the input is Latin-1 or Windows-1252, convert it: iconv -f CP1252 -t UTF-8 FILE | spq check
 
 <a:s> <a:p> "é‹FF›" .
 spq: line 1, byte 16: invalid UTF-8: byte 0xFF

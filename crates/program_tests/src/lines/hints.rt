@@ -237,7 +237,7 @@ spq: line 69, byte 1: the input looks like UTF-16; N-Quads is UTF-8
 spq: line 69, byte 17: invalid UTF-8: byte 0xE9
 <a:s> <a:p> "caf�" .
                 ^
-hint: if the input is Latin-1, convert it: iconv -f LATIN1 -t UTF-8 FILE | spq check
+hint: if the input is Latin-1 or Windows-1252, convert it: iconv -f CP1252 -t UTF-8 FILE | spq check
 
 <<<<<<< HEAD
 spq: line 69, column 2: '<<': quoted triples (RDF-star) are not supported

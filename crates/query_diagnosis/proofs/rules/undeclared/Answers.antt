@@ -1,5 +1,5 @@
 use Rattle.std.proofs.Common.{false, sym, ◌∙◌}
-use Rattle.sparql_read.specs.Prologue.{is_undefined}
+use Rattle.sparql_grammar.specs.Prologue.{is_undefined}
 use Rattle.query_diagnosis.proofs.PlaceSteps.{any_more, first_any}
 use Rattle.query_diagnosis.proofs.rules.undeclared.Goals as goal
 

@@ -2,7 +2,7 @@ use Rattle.std.proofs.Common.{◌≡◌, false, IfOk, subst}
 use Rattle.std.specs.Option.{MatchOption}
 use Rattle.sparql_grammar.specs.Values.{Names}
 use Rattle.sparql_lexer.specs.Terminal.{terminals}
-use Rattle.sparql_read.specs.Prologue.{lacks_declaration}
+use Rattle.sparql_grammar.specs.Prologue.{lacks_declaration}
 use Rattle.query_diagnosis.specs.Place.{IsFirst}
 use Rattle.query_diagnosis.proofs.rules.undefined_prefix.Goals as goal
 

@@ -1,7 +1,11 @@
-use Rattle.std.proofs.Common.{arith, inl, inr, rules}
+use Rattle.std.proofs.Common.{ℕ, List, arith, inl, inr, rules, subst}
+use Rattle.line_diagnosis.specs.Explained.{IsExplained}
 use Rattle.malformed_lines.proofs.FirstBytes.{place_kept}
 use Rattle.malformed_lines.proofs.document_list.MalformedLine.diagnosis.Goals as goal
 use Rattle.malformed_lines.proofs.document_list.MalformedLine.diagnosis.Goals.{else-not-self-via-then-not-self+else-len-diagnosis, else-not-self-via-else-not-self}
+
+pub returns-clause-explained : goal.returns-clause-explained
+returns-clause-explained c = subst (λ (bytes : List ℕ). IsExplained bytes c.in-Some.diagnosis) c.deref.ensures.value (rw c.in-Some.is at c.in_ok-diagnosis.ensures.explained)
 
 pub returns-clause-place : goal.returns-clause-place
 returns-clause-place c = λ line k.

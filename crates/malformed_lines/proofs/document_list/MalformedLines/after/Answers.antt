@@ -9,6 +9,7 @@ returns-clause-listed c = λ before quads h e. record {
   malformed = none_malformed 1 before quads h;
   shown = ap (map (λ (s : MalformedLine). s.number)) c.new.ensures.items;
   each = λ k d l. absurd (omega (arith, l, ap length c.new.ensures.items));
+  named = λ k d l. absurd (omega (arith, l, ap length c.new-2.ensures.empty));
   total = refl;
   count = e;
 }

@@ -6,9 +6,9 @@ use Rattle.malformed_lines.proofs.piece_list.PieceList.add_line.Goals as goal
 pub returns-in-None-clause-listed : goal.returns-in-None-clause-listed
 returns-in-None-clause-listed c = λ before h.
     let w : IsWellFormed c.args.line.now = rw c.in-None.is at c.in_ok-diagnosis.ensures.well_formed in
-    one_well_formed before c.args.line.now w.meaning c.args.self.now _ h w.statement refl refl refl
+    one_well_formed before c.args.line.now w.meaning c.args.self.now _ h w.statement refl refl refl refl
 
 pub returns-then-is_plain_line-clause-listed : goal.returns-then-is_plain_line-clause-listed
 returns-then-is_plain_line-clause-listed c = λ before h.
     let w = c.is_plain_line.ensures.well_formed c.if-is_plain_line.true in
-    one_well_formed before c.args.line.now w.0 c.args.self.now _ h w.1 refl refl refl
+    one_well_formed before c.args.line.now w.0 c.args.self.now _ h w.1 refl refl refl refl

@@ -9,6 +9,7 @@ returns-clause-listed c = λ before quads h e. record {
   malformed = none_malformed 0 before quads h;
   shown = ap (map (λ (f : FoundLine). f.place)) c.new.ensures.items;
   found = λ k d l. absurd (omega (arith, l, ap length c.new.ensures.items));
+  named = λ k d l. absurd (omega (arith, l, ap length c.new-2.ensures.empty));
   total = refl;
   count = sym e;
 }
