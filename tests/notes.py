@@ -43,8 +43,8 @@ def literal(lexical, datatype=STRING, tag=None):
 TRUE, FALSE = literal("true", BOOLEAN), literal("false", BOOLEAN)
 NAMES = [("iri", f"http://e/{it}") for it in "abc"] + [("blank", "n")]
 LITERALS = (
-    [literal(it, XSD + "integer") for it in ("0", "1", "7", "07", "many")] + [literal("7", XSD + "byte"), literal("7.0", DECIMAL), literal("x", DECIMAL)]
-    + [literal(it) for it in ("", "a", "b", "7")] + [literal("a", "", "en"), literal("b", "", "de"), literal("7", "", "en")]
+    [literal(it, XSD + "integer") for it in ("0", "1", "7", "07", "many")] + [literal("7", XSD + "byte"), literal("7.0", DECIMAL), literal("7.5", DECIMAL), literal("x", DECIMAL)]
+    + [literal(it) for it in ("", "a", "b", "7", "7.5")] + [literal("a", "", "en"), literal("b", "", "de"), literal("7", "", "en")]
     + [literal("7", XSD + "double"), literal("1e0", XSD + "double"), literal("7", XSD + "float")]
     + [TRUE, literal("1", BOOLEAN), literal("yes", BOOLEAN), literal("2026-01-01", XSD + "date"), literal("2026", XSD + "gYear"), literal("x", "http://e/t")])
 PREDICATES = [("iri", f"http://e/{it}") for it in "pq"]
@@ -685,14 +685,15 @@ class Drawer:
 
 
     def paired(self):
-        """Returns a group that pairs the rows of two groups, or of a group and an OPTIONAL, by `?x = ?y`."""
+        """Returns a group that pairs the rows of two groups, or of a group and an OPTIONAL, by `?x = ?y`, perhaps with STR."""
         draw = self.draw
 
         def part(subject, item):
             subject = draw.choice(["s", subject]) if draw.random() < 0.3 else subject
             return ("triples", [(("var", subject), draw.choice(PREDICATES), ("var", item))])
 
-        equal = ("compare", "=", ("var", "x"), ("var", "y"))
+        sides = [("STR", it) if draw.random() < 0.3 else it for it in (("var", "x"), ("var", "y"))]
+        equal = ("compare", "=", *sides)
         more = drawn_expression(draw, self.quads, ["s", "t", "x", "y"], 1)
         condition = draw.choice([equal, equal, ("and", equal, more), ("and", more, equal), ("and", equal, ("compare", "=", ("var", "y"), ("var", "x")))])
         filters = [("filter", condition, Site())] + ([("filter", more, Site())] if draw.random() < 0.2 else [])
@@ -789,13 +790,22 @@ def daily_queries():
     yield [labels, where(*compare("=", "l", value_of("Delay 2")))], 0
     yield [labels, where(*compare("=", "l", value_of("Gain 3")))], 1
     yield [labels, where(*compare("=", ("STR", var("l")), value_of("Gain 3")))], 0
+    yield [labels, where("in", True, var("l"), [value_of(""), value_of("Delay 2")])], 1
     yield [having((LABEL, "l"), (LABEL, "m")), where(*compare("!=", "l", "m"))], 1
     yield [minima, where(*compare(">=", "n", zero))], 1
     yield [minima, where(*compare("!=", ("DATATYPE", var("n")), ("term", ("iri", XSD + "integer"))))], 0
     yield [minima, where(*compare("<", "n", value_of("1e3", XSD + "double")))], 1
+    yield [minima, where(*compare("=", "n", value_of("0.0", DECIMAL)))], 1
+    yield [minima, where("not", compare("<", "n", one))], 1
+    yield [("union", [minima], [having((DEFAULT, "n"))]), where(*compare("<", "n", one))], 1
+    yield [having((MINIMUM, "n"), (DEFAULT, "m")), where("or", compare("<", "m", "n"), compare(">", "m", one))], 1
     yield [minima, where(*var("n"))], 1
     yield [dates, where(*compare(">", "d", date))], 1
     yield [dates, where(*compare("<", ("STR", var("d")), value_of("2015")))], 0
+    yield [dates, where(*compare("<", "d", value_of("2015")))], 1
+    yield [dates, where("and", compare(">", ("STR", var("d")), value_of("2015")), compare("<", ("STR", var("d")), one))], 1
+    yield [dates, ("minus", [having((CREATED, "e"), subject="q"), where(*compare("=", "e", "d"))])], 1
+    yield [dates, ("optional", [having((CREATED, "e"), subject="q"), where(*compare("<", "e", "d"))], None)], 1
     yield [having((ISSUED, "y")), where(*compare(">=", "y", year))], 1
     yield [having((TYPE, "t")), where("in", False, var("t"), [("term", it) for it in CLASSES])], 0
     yield [minima, ("minus", [minima, where(*compare(">=", "n", value_of("-1000000", XSD + "integer")))])], 1

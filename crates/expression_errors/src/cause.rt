@@ -1,5 +1,9 @@
 //! What is wrong with terms that cannot be compared, or that have no effective boolean value.
-ghost use Rattle.std.specs.Prelude.{◌≡◌, IfOk};
+ghost use Rattle.std.specs.Prelude.{◌≡◌, ◌&&◌, ◌||◌, IfOk, None, false, not, true};
+ghost use Rattle.algebra_model.specs.Comparison.{equals, is_literal};
+ghost use Rattle.rdf_core.specs.Equality.{term_eq};
+ghost use Rattle.expression_errors.specs.Causes.{Explains, ExplainsTruth, HasDatatype, is_common};
+ghost use Rattle.expression_errors.specs.Classes.{IsClassOf, IsKindOf, has_tag, is_float, is_float_kind, is_float_type, is_ill_formed_kind, is_ill_typed, is_name_kind, is_tagged_kind};
 
 use rdf_core::vocabulary::{XSD_BOOLEAN, XSD_DOUBLE, XSD_STRING};
 use rdf_core::{Term, Text};
@@ -57,7 +61,9 @@ impl Cause {
 
     /// Returns whether queries meet this cause on purpose, as `OPTIONAL` makes unbound variables. It
     /// is worth a note only if every row has an error.
-    pub fn is_common(&self) -> bool {
+    pub fn is_common(&self) -> bool
+        ensures common { result ≡ is_common self.now }
+    {
         match self {
             Cause::Unbound(_) | Cause::SomeUnbound(_) | Cause::Call | Cause::NotLiteral => true,
             Cause::Tagged
@@ -87,7 +93,12 @@ enum Kind {
 }
 
 /// Returns the kind of a literal without a language tag.
-fn kind_of_literal(term: &Term, datatype: &str) -> Kind {
+fn kind_of_literal(term: &Term, datatype: &str) -> Kind
+    ensures literal { is_name_kind result ≡ false }
+    ensures tag { is_tagged_kind result ≡ false }
+    ensures float { is_float_kind result ≡ is_float_type datatype.now }
+    ensures ill_typed { is_ill_formed_kind result ≡ true → is_ill_typed term.now ≡ true }
+{
     if datatype == XSD_STRING {
         Kind::Plain
     } else if is_float_type(datatype) {
@@ -113,7 +124,9 @@ pub struct TermClass<'a> {
 
 impl<'a> TermClass<'a> {
     /// Returns the class of a term.
-    pub fn new(term: &'a Term) -> TermClass<'a> {
+    pub fn new(term: &'a Term) -> TermClass<'a>
+        ensures class { IsClassOf result term.now }
+    {
         let kind = kind_of(term);
         let datatype = match term {
             Term::Literal {
@@ -128,14 +141,27 @@ impl<'a> TermClass<'a> {
 
     /// Returns whether `=` of different terms of these classes is an error that counts, whatever their
     /// lexical forms are: one is an xsd:float or xsd:double, and the other is a literal.
-    pub fn is_error_with(self, other: TermClass<'_>) -> bool {
-        (self.kind == Kind::Float && other.kind != Kind::Name)
-            || (other.kind == Kind::Float && self.kind != Kind::Name)
+    pub fn is_error_with(self, other: TermClass<'_>) -> bool
+        ensures counts { (a b : Term) → IsClassOf self.entry a → IsClassOf other.entry b
+            → result ≡ (is_float a && is_literal b || is_float b && is_literal a) }
+        ensures error { (a b : Term) → IsClassOf self.entry a → IsClassOf other.entry b
+            → term_eq a b ≡ false → result ≡ true → equals a b ≡ None }
+    {
+        self.is_float_and_literal(other) || other.is_float_and_literal(self)
+    }
+
+    /// Returns whether this is a class of floats, and the other one of literals.
+    fn is_float_and_literal(self, other: TermClass<'_>) -> bool
+        ensures value { result ≡ (is_float_kind self.entry.kind && not (is_name_kind other.entry.kind)) }
+    {
+        self.kind == Kind::Float && other.kind != Kind::Name
     }
 }
 
 /// Returns whether a term is an xsd:float or xsd:double.
-pub fn is_float(term: &Term) -> bool {
+pub fn is_float(term: &Term) -> bool
+    ensures float { result ≡ is_float term.now }
+{
     match term {
         Term::Literal {
             datatype,
@@ -146,11 +172,16 @@ pub fn is_float(term: &Term) -> bool {
     }
 }
 
-fn is_float_type(datatype: &str) -> bool {
+fn is_float_type(datatype: &str) -> bool
+    ensures float { result ≡ is_float_type datatype.now }
+{
     datatype == XSD_DOUBLE || datatype == XSD_FLOAT
 }
 
-fn kind_of(term: &Term) -> Kind {
+/// Returns the kind of a term.
+fn kind_of(term: &Term) -> Kind
+    ensures kind { IsKindOf result term.now }
+{
     match term {
         Term::Literal {
             datatype,
@@ -174,7 +205,9 @@ fn are_comparable_elsewhere(left: Kind, right: Kind, same_datatype: bool) -> boo
 }
 
 /// Returns the datatype of a term, or the text of an IRI or a blank node.
-fn datatype_of(alloc: Global, term: &Term) -> Result<Text, AllocError> {
+fn datatype_of(alloc: Global, term: &Term) -> Result<Text, AllocError>
+    ensures datatype { IfOk result (λ iri. is_literal term.now ≡ true → HasDatatype term.now iri) }
+{
     match term {
         Term::Literal { datatype, .. } => datatype.copy(alloc),
         Term::Iri(text) | Term::Blank(text) => text.copy(alloc),
@@ -202,7 +235,9 @@ pub(crate) fn comparison_cause(
     alloc: Global,
     left: &Term,
     right: &Term,
-) -> Result<Cause, AllocError> {
+) -> Result<Cause, AllocError>
+    ensures explained { IfOk result (λ cause. Explains cause left.now right.now) }
+{
     let (one, other) = (kind_of(left), kind_of(right));
     if one == Kind::Name || other == Kind::Name {
         Ok(Cause::NotLiteral)
@@ -225,7 +260,9 @@ pub(crate) fn comparison_cause(
 ///
 /// # Errors
 /// `AllocError` if an allocation fails.
-pub(crate) fn truth_cause(alloc: Global, term: &Term) -> Result<Cause, AllocError> {
+pub(crate) fn truth_cause(alloc: Global, term: &Term) -> Result<Cause, AllocError>
+    ensures explained { IfOk result (λ cause. ExplainsTruth cause term.now) }
+{
     match term {
         Term::Literal { datatype, .. } => Ok(Cause::NoTruth(datatype.copy(alloc)?)),
         Term::Iri(_) | Term::Blank(_) => Ok(Cause::NotLiteral),

@@ -173,7 +173,9 @@ pub fn count_rows<R: Lookup>(
     row: &R,
     rows: u64,
     place: Place<'_>,
-) -> Result<(), AllocError> {
+) -> Result<(), AllocError>
+    ensures takes_none { takes_none condition.now ≡ true → IsOk result }
+{
     match truth_value(alloc, condition, row)? {
         Some(_) => place.note_truth(alloc, condition, row),
         None => place.count_condition(alloc, condition, row, rows),

@@ -1,4 +1,7 @@
 //! The number of rows for each expression and cause. Workers share it.
+ghost use Rattle.std.specs.Prelude.{◌≡◌, ◌<◌, All, IfOk, OnOk, false, true};
+ghost use Rattle.expression_errors.specs.Counts.{is_counted};
+
 use crate::cause::Cause;
 use crate::digest::{Owner, digest_of};
 use expression_values::Expr;
@@ -134,34 +137,6 @@ impl PartCounter {
             }
         }
     }
-
-    /// Appends the counts that are not zero.
-    fn push_into(&self, alloc: Global, counts: &mut Vec<(Cause, u64)>) -> Result<(), AllocError> {
-        push_count(counts, self.unbound_cause(), &self.unbound)?;
-        push_count(counts, Cause::Call, &self.calls)?;
-        push_count(counts, Cause::NotLiteral, &self.not_literals)?;
-        push_count(counts, Cause::Tagged, &self.tagged)?;
-        push_count(counts, Cause::Kinds, &self.kinds)?;
-        for counter in &self.datatypes {
-            if let Some(cause) = counter.cause.get() {
-                push_count(counts, cause.copy(alloc)?, &counter.rows)?;
-            }
-        }
-        Ok(())
-    }
-}
-
-/// Appends a count that is not zero.
-fn push_count(
-    counts: &mut Vec<(Cause, u64)>,
-    cause: Cause,
-    rows: &AtomicU64,
-) -> Result<(), AllocError> {
-    let rows = rows.load(Ordering::SeqCst);
-    if rows > 0 {
-        counts.push((cause, rows))?;
-    }
-    Ok(())
 }
 
 /// The counts of the equal expressions of a plan.
@@ -292,7 +267,9 @@ impl ErrorCounts {
     ///
     /// # Errors
     /// `AllocError` if an allocation fails.
-    pub fn tallies(&self, alloc: Global) -> Result<Vec<Tally>, AllocError> {
+    pub fn tallies(&self, alloc: Global) -> Result<Vec<Tally>, AllocError>
+        ensures counted { IfOk result (λ found. All (λ tally. 0 < tally.rows) found.items) }
+    {
         let mut tallies = Vec::new(alloc);
         for counter in &self.counters {
             push_tallies(&mut tallies, alloc, counter)?;
@@ -320,25 +297,64 @@ fn add_key(alloc: Global, counters: &mut Vec<Counter>, key: Key) -> Result<(), A
     }
 }
 
-/// Appends the counts of one counter.
-fn push_tallies(
-    tallies: &mut Vec<Tally>,
-    alloc: Global,
-    counter: &Counter,
-) -> Result<(), AllocError> {
-    for (filter, part) in counter.parts.iter().enumerate() {
-        let mut counts = Vec::new(alloc);
-        part.push_into(alloc, &mut counts)?;
-        for (cause, rows) in counts {
-            tallies.push(Tally {
-                expressions: counter.expressions.clone()?,
-                filter,
-                cause,
-                rows,
-                is_partial: counter.partial.load(Ordering::SeqCst) != 0,
-                is_everywhere: !part.is_valued(),
-            })?;
+/// One FILTER of a counter, or the value of a BIND.
+#[derive(Clone, Copy)]
+struct Part<'a> {
+    of: &'a Counter,
+    filter: usize,
+    counts: &'a PartCounter,
+}
+
+/// Appends the counts of one counter that are not zero.
+fn push_tallies(tallies: &mut Vec<Tally>, alloc: Global, of: &Counter) -> Result<(), AllocError>
+    requires counted { All (λ tally. 0 < tally.rows) tallies.old.items }
+    ensures counted { OnOk result (All (λ tally. 0 < tally.rows) tallies.new.items) }
+{
+    for (filter, counts) in of.parts.iter().enumerate() {
+        push_part(tallies, alloc, Part { of, filter, counts })?;
+    }
+    Ok(())
+}
+
+/// Appends the counts of one part that are not zero.
+fn push_part(tallies: &mut Vec<Tally>, alloc: Global, part: Part<'_>) -> Result<(), AllocError>
+    requires counted { All (λ tally. 0 < tally.rows) tallies.old.items }
+    ensures counted { OnOk result (All (λ tally. 0 < tally.rows) tallies.new.items) }
+{
+    let counts = part.counts;
+    push_count(tallies, part, counts.unbound_cause(), &counts.unbound)?;
+    push_count(tallies, part, Cause::Call, &counts.calls)?;
+    push_count(tallies, part, Cause::NotLiteral, &counts.not_literals)?;
+    push_count(tallies, part, Cause::Tagged, &counts.tagged)?;
+    push_count(tallies, part, Cause::Kinds, &counts.kinds)?;
+    for counter in &counts.datatypes {
+        if let Some(cause) = counter.cause.get() {
+            push_count(tallies, part, cause.copy(alloc)?, &counter.rows)?;
         }
+    }
+    Ok(())
+}
+
+/// Appends a count of one part if it is not zero.
+fn push_count(
+    tallies: &mut Vec<Tally>,
+    part: Part<'_>,
+    cause: Cause,
+    rows: &AtomicU64,
+) -> Result<(), AllocError>
+    requires counted { All (λ tally. 0 < tally.rows) tallies.old.items }
+    ensures counted { OnOk result (All (λ tally. 0 < tally.rows) tallies.new.items) }
+{
+    let rows = rows.load(Ordering::SeqCst);
+    if rows > 0 {
+        tallies.push(Tally {
+            expressions: part.of.expressions.clone()?,
+            filter: part.filter,
+            cause,
+            rows,
+            is_partial: part.of.partial.load(Ordering::SeqCst) != 0,
+            is_everywhere: !part.counts.is_valued(),
+        })?;
     }
     Ok(())
 }
@@ -351,17 +367,23 @@ pub struct Place<'a> {
 
 impl<'a> Place<'a> {
     /// Returns a place where nothing is counted.
-    pub fn none() -> Place<'a> {
+    pub fn none() -> Place<'a>
+        ensures uncounted { is_counted result ≡ false }
+    {
         Place { counter: None }
     }
 
     /// Returns whether anything is counted here.
-    pub fn is_counted(self) -> bool {
+    pub fn is_counted(self) -> bool
+        ensures value { result ≡ is_counted self.entry }
+    {
         self.counter.is_some()
     }
 
     /// Returns whether each FILTER of the condition was true or false over some row, or nothing is counted.
-    pub fn is_valued(self) -> bool {
+    pub fn is_valued(self) -> bool
+        ensures uncounted { is_counted self.entry ≡ false → result ≡ true }
+    {
         match self.counter {
             Some(counter) => counter.is_valued(),
             None => true,
