@@ -1,9 +1,10 @@
 -- Documents of statements: their lines, and what these hold.
-use Rattle.std.proofs.Common.{◌≡◌, ◌⊎◌, ℕ, suc, ◌<◌, List, [], ◌∷◌, ◌++◌, length, map, Option, None, Some, refl, sym, ap, subst, ◌∙◌, inl, inr, append_assoc, append-nil, arith}
+use Rattle.std.proofs.Common.{◌≡◌, ◌⊎◌, ℕ, suc, ◌<◌, List, [], ◌∷◌, ◌++◌, length, map, Option, None, Some, refl, sym, ap, subst, ◌∙◌, inl, inr, append_assoc, append-nil, arith, codes}
 use Rattle.std.specs.Prelude.{option_to_list, slice_index, ◌≢◌}
 use Rattle.std.specs.List.{AllZip}
 use Rattle.rdf_core.specs.declared.term.Term.{Term}
 use Rattle.rdf_core.specs.QuadParts.{QuadParts}
+use Rattle.rdf_core.specs.Serialization.{serialization}
 use Rattle.rdf_core.proofs.EscapeSteps.{eqb_no}
 use Rattle.nquads_core.specs.Grammar.{HasStatement}
 use Rattle.nquads_core.specs.Lines.{lines, EndsLine}
@@ -17,6 +18,7 @@ use Rattle.dict_core.specs.Appearances.{terms_of, terms_of_quad}
 use Rattle.dict_core.specs.Numbered.{joined}
 use Rattle.cluster_parts.specs.Seal.{joined_texts}
 use Rattle.cluster_parts.specs.Parts.{quad_document, term_document}
+use Rattle.cluster_parts.specs.Terms.{term_lines}
 use Rattle.cluster_parts.specs.Laws.{AreWholeLines, BlocksJoin}
 use Rattle.cluster_parts.proofs.Each.{Each, Each-append}
 
@@ -39,6 +41,26 @@ terms_read (t ∷ ts) h =
     let holds : HasStatement (object_line t) (Some (with_object t)) = terms_round_trip h.0.0 h.0.1 t h.0.2 h.0.3 in
     subst (λ ls. HaveStatements ls (map with_object (t ∷ ts))) (sym (first_line (object_line t) (term_document ts) (Some (with_object t)) holds))
     (Some (with_object t), map with_object ts, holds, refl, terms_read ts h.1)
+
+no_ends_before : (xs ys : List ℕ) → NoEnds (xs ++ ys) → NoEnds xs
+no_ends_before [] ys h = tt
+no_ends_before (x ∷ xs) ys h = (h.0, h.1, no_ends_before xs ys h.2)
+
+no_ends_after : (xs ys : List ℕ) → NoEnds (xs ++ ys) → NoEnds ys
+no_ends_after [] ys h = h
+no_ends_after (x ∷ xs) ys h = no_ends_after xs ys h.2
+
+-- the N-Quads form of a term has no line end
+form_line : (t : Term) → IsNQuadsTerm t → NoEnds (serialization t)
+form_line t h =
+    let holds : HasStatement (object_line t) (Some (with_object t)) = terms_round_trip h.0 h.1 t h.2 h.3 in
+    no_ends_before (serialization t) (codes " .") (no_ends_after (codes "<a:> <a:> ") (serialization t ++ codes " .") (no_ends (object_line t) holds.one_line))
+
+-- terms that are listed on lines
+pub lines_of_terms : (ts : List Term) → Each IsNQuadsTerm ts → lines (term_lines ts) ≡ map serialization ts
+lines_of_terms [] h = lines_nil
+lines_of_terms (t ∷ ts) h =
+    ap lines (append_assoc (serialization t) (10 ∷ []) (term_lines ts)) ∙ line_lf (serialization t) (term_lines ts) (form_line t h.0) ∙ ap (λ l. serialization t ∷ l) (lines_of_terms ts h.1)
 
 -- a quad of some line
 abbrev pub IsOfLine : QuadParts → Type 0

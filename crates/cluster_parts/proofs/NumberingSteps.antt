@@ -1,10 +1,11 @@
 -- The quads of a piece that was read by texts, numbered by terms.
-use Rattle.std.proofs.Common.{◌≡◌, ℕ, ◌-◌, List, [], ◌++◌, length, refl, sym, ap, ◌∙◌, subst, arith}
+use Rattle.std.proofs.Common.{◌≡◌, ℕ, ◌-◌, List, [], ◌++◌, length, map, refl, sym, ap, ◌∙◌, subst, arith}
 use Rattle.std.specs.List.{slice_range}
 use Rattle.std.proofs.lemmas.List.{append-nil, take_all}
 use Rattle.std.proofs.lemmas.List.Elements.{All-nil}
 use Rattle.rdf_core.specs.declared.term.Term.{Term}
 use Rattle.rdf_core.specs.QuadParts.{QuadParts}
+use Rattle.rdf_core.specs.Serialization.{serialization}
 use Rattle.nquads_core.specs.Laws.{IsNQuadsTerm}
 use Rattle.dict_core.specs.declared.num_quad.NumQuad.{NumQuad}
 use Rattle.dict_core.specs.NumQuad.{quads_at, IsBelow}
@@ -50,3 +51,11 @@ piece_numbered piece quads old texts before numbers dict n h old_is before_is ad
 -- what is numbered is what the numbers read as
 pub numbered_reads : (quads : List QuadParts) (dict : List Term) (numbers : List NumQuad) → IsNumbered quads dict numbers → IsNumbered (quads_at dict numbers) dict numbers
 numbered_reads quads dict numbers h = subst (λ q. IsNumbered q dict numbers) (sym h.2) h
+
+-- the texts of a piece that is added to a dictionary without a text
+pub texts_are : (piece : TextPiece) (quads : List QuadParts) (old texts : List (List ℕ)) (before numbers : List NumQuad) → IsPieceOf [] quads piece → old ≡ [] → before ≡ []
+    → ((earlier : List (List ℕ)) (done quads : List QuadParts) → AreGrown earlier old → IsPieceOf earlier quads piece → AreNumberedBy done old before → AreNumberedBy (done ++ quads) texts numbers)
+    → texts ≡ map serialization (first_appearances (terms_of quads))
+texts_are piece quads old texts before numbers h old_is before_is added =
+    let made = added [] [] quads (old, refl) h (none_numbered old before old_is before_is) in
+    made.forms.forms ∙ ap (map serialization) made.numbered.0

@@ -1,28 +1,45 @@
 -- Which terms are new in each list, and the law that those which are kept are the terms of the document.
-use Rattle.std.proofs.Common.{◌≡◌, ℕ, zero, suc, ◌<◌, ◌≤◌, ◌%◌, Bool, true, false, cond, eqb, not, ◌&&◌, ◌||◌, List, [], ◌∷◌, ◌++◌, length, map, filter, get_or, refl, sym, ap, subst, ◌∙◌, ⊎_elim, arith, eq-eqb, ne_eqb, append-nil, append_assoc}
-use Rattle.std.specs.List.{flat_map, AllZip}
-use Rattle.std.proofs.lemmas.Bool.{cases_Bool, false≢true, eqb-true}
+use Rattle.std.proofs.Common.{◌≡◌, ℕ, zero, suc, ◌<◌, ◌%◌, ◌==◌, Bool, true, false, cond, not, ◌&&◌, ◌||◌, if◌then◌else◌, List, [], ◌∷◌, ◌++◌, length, map, filter, get_or, refl, sym, ap, subst, ◌∙◌, ⊎_elim, arith, eq-eqb, append-nil, append_assoc, length-append}
+use Rattle.std.specs.List.{flat_map, list_any}
+use Rattle.std.specs.Prelude.{⊤}
+use Rattle.std.specs.Str.{bytes_eq}
+use Rattle.std.proofs.lemmas.Bool.{cases_eq, false≢true}
 use Rattle.std.proofs.lemmas.Nat.{mod_below}
+use Rattle.std.proofs.lemmas.List.{get_or_append_left, get_or_push, map-append}
 use Rattle.std.proofs.lemmas.Grind.{flat_map-append}
 use Rattle.std.proofs.lemmas.List.Elements.{filter-append}
 use Rattle.std.proofs.lemmas.List.Folds.{list_any-append}
+use Rattle.std.proofs.lemmas.Slice.Eq.{bytes_eq-Decides}
 use Rattle.rdf_core.specs.declared.term.Term.{Term}
 use Rattle.rdf_core.specs.QuadParts.{QuadParts}
+use Rattle.rdf_core.specs.Serialization.{serialization}
 use Rattle.rdf_core.proofs.TermLaws.{term_eq, term_decides, term_eq_laws}
 use Rattle.nquads_core.specs.Lines.{lines}
-use Rattle.nquads_core.specs.Laws.{IsNQuadsTerm, with_object}
+use Rattle.nquads_core.specs.Laws.{IsNQuadsTerm}
+use Rattle.nquads_core.proofs.Forms.{forms_are_distinct}
 use Rattle.dict_core.specs.Appearances.{terms_of, terms_of_quad, first_appearances, differs_from}
 use Rattle.algebra_model.proofs.RepeatLaws.{any-without_repeats_is}
 use Rattle.cluster_parts.specs.Hash.{term_hash}
 use Rattle.cluster_parts.specs.Seal.{joined_texts}
-use Rattle.cluster_parts.specs.Parts.{is_in, term_document, term_statement, terms_in, texts_below}
-use Rattle.cluster_parts.specs.Terms.{HaveObjects, has_term, new_in_turn, new_terms, term_line, term_lines}
+use Rattle.cluster_parts.specs.Parts.{is_in, terms_in}
+use Rattle.cluster_parts.specs.Terms.{has_line, is_marked, line_list, lines_in, mark, marked_lines, marks, marks_in_turn, term_line, term_lines}
 use Rattle.cluster_parts.specs.Output.{AreFirst, IsKept}
-use Rattle.cluster_parts.specs.Laws.{TermsAreKept, block_terms, partition_terms}
+use Rattle.cluster_parts.specs.Laws.{TermsAreKept, block_terms, each_below, partition_terms}
 use Rattle.cluster_parts.proofs.Each.{Each, Each-append, Each-filter, Each-without_repeats}
-use Rattle.cluster_parts.proofs.DocumentLaws.{IsOfLine, block_quads, one_reading, terms_of_lines, terms_read}
+use Rattle.cluster_parts.proofs.DocumentLaws.{IsOfLine, block_quads, lines_of_terms, terms_of_lines}
 use Rattle.cluster_parts.proofs.SetCounts.{any-filter_is}
 use Rattle.cluster_parts.proofs.AddUpLaws.{appearances_once, flat_map-joined}
+use Rattle.cluster_parts.proofs.TermSteps.{term_list, terms_lines}
+
+-- ---- terms of lists
+
+-- the term is in the list
+abbrev has_term : List Term → Term → Bool
+has_term terms t = list_any (term_eq t) terms
+
+-- the terms of a list that are not in an earlier one, each once
+abbrev new_terms : List Term → List Term → List Term
+new_terms earlier terms = filter (λ t. not (has_term earlier t)) (first_appearances terms)
 
 -- ---- filters
 
@@ -59,14 +76,6 @@ appearances_split (x ∷ xs) ys =
     step : (t : Term) → (not (has_term xs t) && differs_from x t) ≡ not (has_term (x ∷ xs) t)
     step t = ap (λ b. not (has_term xs t) && not b) (term_eq_laws.symm x t) ∙ nor (has_term xs t) (term_eq t x)
 
--- one more list after the others
-pub turn_more : (earlier : List Term) (lists : List (List Term)) (terms : List Term)
-    → new_in_turn earlier (lists ++ terms ∷ []) ≡ new_in_turn earlier lists ++ new_terms (earlier ++ flat_map (λ l. l) lists) terms ∷ []
-turn_more earlier [] terms = ap (λ l. new_terms l terms ∷ []) (sym (append-nil earlier))
-turn_more earlier (ts ∷ lists) terms =
-    ap (λ l. new_terms earlier ts ∷ l) (turn_more (earlier ++ ts) lists terms
-    ∙ ap (λ l. new_in_turn (earlier ++ ts) lists ++ new_terms l terms ∷ []) (append_assoc earlier ts (flat_map (λ l. l) lists)))
-
 -- what is new after `earlier` in two lists
 new_in_both : (earlier xs ys : List Term) → new_terms earlier (xs ++ ys) ≡ new_terms earlier xs ++ new_terms (earlier ++ first_appearances xs) ys
 new_in_both earlier xs ys =
@@ -79,143 +88,181 @@ new_in_both earlier xs ys =
         nor (has_term xs t) (has_term earlier t)
         ∙ ap not (ap (λ b. has_term earlier t || b) (sym (has_appearances xs t)) ∙ sym (list_any-append (term_eq t) earlier (first_appearances xs)))
 
--- ---- the objects of documents of terms
-
-objects_back : (ts : List Term) → map (λ q. q.o) (map with_object ts) ≡ ts
-objects_back [] = refl
-objects_back (t ∷ ts) = ap (λ l. t ∷ l) (objects_back ts)
-
-pub objects_read : (ts us : List Term) → Each IsNQuadsTerm ts → HaveObjects (term_document ts) us → us ≡ ts
-objects_read ts us good h =
-    h.2 ∙ ap (map (λ q. q.o)) (one_reading (lines (term_document ts)) h.0 (map with_object ts) h.1 (terms_read ts good)) ∙ objects_back ts
-
 each_appearances : (ts : List Term) → Each IsNQuadsTerm ts → Each IsNQuadsTerm (first_appearances ts)
 each_appearances ts good = subst (Each IsNQuadsTerm) (sym (appearances_once ts)) (Each-without_repeats IsNQuadsTerm term_eq ts good)
 
--- ---- lists of partitions
+-- ---- the lines of terms
 
-abbrev lists_below : (ℕ → List Term) → ℕ → List Term
-lists_below f zero = []
-lists_below f (suc n) = lists_below f n ++ f n
-
-below_document : (f : ℕ → List Term) (k : ℕ) → texts_below (λ n. term_document (f n)) k ≡ term_document (lists_below f k)
-below_document f zero = refl
-below_document f (suc k) = ap (λ l. l ++ term_document (f k)) (below_document f k) ∙ sym (flat_map-append term_statement (lists_below f k) (f k))
-
-each_below : (f : ℕ → List Term) (k : ℕ) → ((n : ℕ) → Each IsNQuadsTerm (f n)) → Each IsNQuadsTerm (lists_below f k)
-each_below f zero h = tt
-each_below f (suc k) h = Each-append IsNQuadsTerm (lists_below f k) (f k) (each_below f k h) (h k)
-
--- if only the list of one partition may have the term
-module _ (f : ℕ → List Term) (t : Term) (p : ℕ) (c : Bool) (of_part : (n : ℕ) → has_term (f n) t ≡ (eqb p n && c)) where
-  no_part : (j : ℕ) → j ≤ p → has_term (lists_below f j) t ≡ false
-  no_part zero low = refl
-  no_part (suc j) low =
-      let apart : eqb p j ≡ false = ne_eqb p j (λ e. absurd (omega (arith, e))) in
-      list_any-append (term_eq t) (lists_below f j) (f j)
-      ∙ (λ i. no_part j (omega arith) i || (of_part j ∙ ap (λ b. b && c) apart) i)
-
-  some_part : (j : ℕ) → p < j → has_term (lists_below f j) t ≡ c
-  some_part zero low = absurd (omega arith)
-  some_part (suc j) low =
-      list_any-append (term_eq t) (lists_below f j) (f j)
-      ∙ ⊎_elim
-      (λ (e : eqb p j ≡ true).
-      let none = no_part j (omega (arith, eqb-true p j e)) in
-      (λ i. none i || (of_part j ∙ ap (λ b. b && c) e) i))
-      (λ (e : eqb p j ≡ false).
-      let one = some_part j (omega (arith, other e)) in
-      (λ i. one i || (of_part j ∙ ap (λ b. b && c) e) i) ∙ last c)
-      (cases_Bool (eqb p j))
-    where
-      last : (b : Bool) → (b || false) ≡ b
-      last true = refl
-      last false = refl
-
-      other : eqb p j ≡ false → p ≡ j → ⊥
-      other e same = false≢true (sym e ∙ eq-eqb p j same)
-
--- ---- the new terms of a block, by partition and whole
-
-new_here : (i e s : Bool) → (not (i && e) && (i && s)) ≡ (i && (not e && s))
-new_here true e s = refl
-new_here false e s = refl
-
--- a filter that also asks for what holds of each element
-filter_members : (p q : Term → Bool) (ts : List Term) → Each (λ t. q t ≡ true) ts → filter (λ t. p t && q t) ts ≡ filter p ts
-filter_members p q [] h = refl
-filter_members p q (t ∷ ts) h = (λ i. cond ((ap (λ b. p t && b) h.0 ∙ and_true (p t)) i) (t ∷ filter_members p q ts h.1 i) (filter_members p q ts h.1 i))
+form_eq : (t u : Term) → IsNQuadsTerm t → IsNQuadsTerm u → bytes_eq (serialization t) (serialization u) ≡ term_eq t u
+form_eq t u good fine = by (bytes_eq (serialization t) (serialization u)) (term_eq t u) refl refl
   where
-    and_true : (a : Bool) → (a && true) ≡ a
-    and_true true = refl
-    and_true false = refl
+    by : (a b : Bool) → bytes_eq (serialization t) (serialization u) ≡ a → term_eq t u ≡ b → a ≡ b
+    by true true p q = refl
+    by false false p q = refl
+    by true false p q =
+        absurd (false≢true (sym q ∙ (term_decides t u).1 (forms_are_distinct t u good fine ((bytes_eq-Decides (serialization t) (serialization u)).0 p))))
+    by false true p q =
+        absurd (false≢true (sym p ∙ (bytes_eq-Decides (serialization t) (serialization u)).1 (ap serialization ((term_decides t u).0 q))))
 
-or_true : (a : Bool) → (a || true) ≡ true
-or_true true = refl
-or_true false = refl
+has_form : (us : List Term) (t : Term) → Each IsNQuadsTerm us → IsNQuadsTerm t → has_line (map serialization us) (serialization t) ≡ has_term us t
+has_form [] t good fine = refl
+has_form (u ∷ us) t good fine = λ i. form_eq t u fine good.0 i || has_form us t good.1 fine i
 
-members : (ts us : List Term) → Each (λ t. has_term ts t ≡ true) us → (x : Term) → Each (λ t. has_term (x ∷ ts) t ≡ true) us
-members ts [] h x = tt
-members ts (u ∷ us) h x = (ap (λ b. term_eq u x || b) h.0 ∙ or_true (term_eq u x), members ts us h.1 x)
+-- ---- terms that are each in a list once
 
-own_members : (ts : List Term) → Each (λ t. has_term ts t ≡ true) ts
-own_members [] = tt
-own_members (t ∷ ts) = (ap (λ b. b || has_term ts t) ((term_decides t t).1 refl), members ts ts (own_members ts) t)
+-- no term is before itself, or in `before`
+abbrev Fresh : List Term → List Term → Type 0
+Fresh before [] = ⊤
+Fresh before (t ∷ ts) = (has_term before t ≡ false) × Fresh (before ++ t ∷ []) ts
 
-filter_same : (p q : Term → Bool) → ((t : Term) → p t ≡ q t) → (ts : List Term) → filter p ts ≡ filter q ts
-filter_same p q h ts = ap (λ (r : Term → Bool). filter r ts) (λ i t. h t i)
+-- no term is after itself
+abbrev Differ : List Term → Type 0
+Differ [] = ⊤
+Differ (t ∷ ts) = Each (λ u. term_eq u t ≡ false) ts × Differ ts
+
+differ_filter : (p : Term → Bool) (ts : List Term) → Differ ts → Differ (filter p ts)
+differ_filter p [] h = tt
+differ_filter p (t ∷ ts) h =
+    elim (p t) as (λ b. Differ (cond b (t ∷ filter p ts) (filter p ts))) [
+      | true ↦ (Each-filter (λ u. term_eq u t ≡ false) p ts h.0, differ_filter p ts h.1)
+      | false ↦ differ_filter p ts h.1
+    ]
+
+others_differ : (t : Term) (us : List Term) → Each (λ u. term_eq u t ≡ false) (filter (differs_from t) us)
+others_differ t [] = tt
+others_differ t (u ∷ us) = by (term_eq t u) refl (others_differ t us)
+  where
+    by : (b : Bool) → term_eq t u ≡ b → Each (λ v. term_eq v t ≡ false) (filter (differs_from t) us) → Each (λ v. term_eq v t ≡ false) (cond (not b) (u ∷ filter (differs_from t) us) (filter (differs_from t) us))
+    by true e others = others
+    by false e others = (term_eq_laws.symm u t ∙ e, others)
+
+appearances_differ : (ts : List Term) → Differ (first_appearances ts)
+appearances_differ [] = tt
+appearances_differ (t ∷ ts) = (others_differ t (first_appearances ts), differ_filter (differs_from t) (first_appearances ts) (appearances_differ ts))
+
+fresh_after : (before ts : List Term) → Each (λ t. has_term before t ≡ false) ts → Differ ts → Fresh before ts
+fresh_after before [] h d = tt
+fresh_after before (t ∷ ts) h d = (h.0, fresh_after (before ++ t ∷ []) ts (over ts h.1 d.0) d.1)
+  where
+    over : (us : List Term) → Each (λ u. has_term before u ≡ false) us → Each (λ u. term_eq u t ≡ false) us → Each (λ u. has_term (before ++ t ∷ []) u ≡ false) us
+    over [] p q = tt
+    over (u ∷ us) p q = (list_any-append (term_eq u) before (t ∷ []) ∙ (λ i. p.0 i || (q.0 i || false)), over us p.1 q.1)
+
+all_fresh : (ts : List Term) → Fresh [] (first_appearances ts)
+all_fresh ts = fresh_after [] (first_appearances ts) (none (first_appearances ts)) (appearances_differ ts)
+  where
+    none : (us : List Term) → Each (λ u. has_term [] u ≡ false) us
+    none [] = tt
+    none (u ∷ us) = (refl, none us)
+
+-- ---- marks
+
+marks_at : (earlier xs ys : List (List ℕ)) (l : List ℕ) → get_or (marks earlier (xs ++ l ∷ ys)) (length xs) 0 ≡ mark (not (has_line (earlier ++ xs) l))
+marks_at earlier [] ys l = ap (λ e. mark (not (has_line e l))) (sym (append-nil earlier))
+marks_at earlier (x ∷ xs) ys l = marks_at (earlier ++ x ∷ []) xs ys l ∙ ap (λ e. mark (not (has_line e l))) (append_assoc earlier (x ∷ []) xs)
+
+mark_is : (b : Bool) → (mark b == 1) ≡ b
+mark_is true = refl
+mark_is false = refl
+
+below_long : (f : ℕ → List ℕ) (k : ℕ) → length (each_below f k) ≡ k
+below_long f zero = refl
+below_long f (suc k) = omega (arith, length-append (each_below f k) (f k ∷ []), below_long f k)
+
+below_at : (f : ℕ → List ℕ) (k n : ℕ) → n < k → get_or (each_below f k) n [] ≡ f n
+below_at f zero n low = absurd (omega (arith, low))
+below_at f (suc k) n low =
+    ⊎_elim
+    (λ (e : n ≡ k). get_or_push (each_below f k) (f k) [] n (below_long f k ∙ sym e) ∙ ap f (sym e))
+    (λ (other : n ≡ k → ⊥).
+    let less : n < k = lower low other in
+    get_or_append_left (each_below f k) (f k ∷ []) [] n (subst (λ m. n < m) (sym (below_long f k)) less) ∙ below_at f k n less)
+    (cases_eq n k)
+  where
+    lower : n < suc k → (n ≡ k → ⊥) → n < k
+    lower low other = omega (arith, low, other)
+
+module _ (k : ℕ) (some : 0 < k) (earlier ts : List Term) (known : Each IsNQuadsTerm earlier) (marked : List (List ℕ)) (long : length marked ≡ k)
+    (are : (n : ℕ) → n < k → get_or marked n [] ≡ marks (map serialization (terms_in k n earlier)) (map serialization (terms_in k n ts))) where
+  -- the mark of a term
+  term_marked : (before rest : List Term) (t : Term) → before ++ t ∷ rest ≡ ts → Each IsNQuadsTerm before → IsNQuadsTerm t
+      → is_marked marked (map serialization before) (serialization t) ≡ not (has_term earlier t || has_term before t)
+  term_marked before rest t whole good fine =
+      let n = term_hash t % k in
+      let inside : Term → Bool = λ u. is_in k n (term_hash u) in
+      let here : inside t ≡ true = eq-eqb n n refl in
+      let E = terms_in k n earlier in
+      let B = terms_in k n before in
+      let split : terms_in k n ts ≡ B ++ t ∷ terms_in k n rest =
+      ap (terms_in k n) (sym whole) ∙ filter-append inside before (t ∷ rest) ∙ ap (λ b. B ++ cond b (t ∷ terms_in k n rest) (terms_in k n rest)) here in
+      let found : get_or marked n [] ≡ marks (map serialization E) (map serialization B ++ serialization t ∷ map serialization (terms_in k n rest)) =
+      are n (mod_below (term_hash t) k some) ∙ ap (λ l. marks (map serialization E) (map serialization l)) split
+      ∙ ap (marks (map serialization E)) (map-append serialization B (t ∷ terms_in k n rest)) in
+      let known_here : (us : List Term) → has_term (terms_in k n us) t ≡ has_term us t =
+      λ us. any-filter_is term_eq term_decides inside t us ∙ ap (λ b. b && has_term us t) here in
+      ap (λ m. get_or (get_or marked (term_hash t % m) []) (length (lines_in m (term_hash t % m) (map serialization before))) 0 == 1) long
+      ∙ (λ i. get_or (found i) (length (terms_lines k n before i)) 0 == 1)
+      ∙ ap (λ b. b == 1) (marks_at (map serialization E) (map serialization B) (map serialization (terms_in k n rest)) (serialization t))
+      ∙ mark_is (not (has_line (map serialization E ++ map serialization B) (serialization t)))
+      ∙ ap not (ap (λ l. has_line l (serialization t)) (sym (map-append serialization E B))
+      ∙ has_form (E ++ B) t (Each-append IsNQuadsTerm E B (Each-filter IsNQuadsTerm inside earlier known) (Each-filter IsNQuadsTerm inside before good)) fine
+      ∙ list_any-append (term_eq t) E B ∙ (λ i. known_here earlier i || known_here before i))
+
+  -- the terms that are kept
+  kept_terms : (before rest : List Term) → before ++ rest ≡ ts → Each IsNQuadsTerm before → Each IsNQuadsTerm rest → Fresh before rest
+      → marked_lines marked (map serialization before) (map serialization rest) ≡ map serialization (filter (λ t. not (has_term earlier t)) rest)
+  kept_terms before [] whole good fine fresh = refl
+  kept_terms before (t ∷ rest) whole good fine fresh =
+      let kept = filter (λ u. not (has_term earlier u)) rest in
+      let others : marked_lines marked (map serialization before ++ serialization t ∷ []) (map serialization rest) ≡ map serialization kept =
+      ap (λ l. marked_lines marked l (map serialization rest)) (sym (map-append serialization before (t ∷ [])))
+      ∙ kept_terms (before ++ t ∷ []) rest (append_assoc before (t ∷ []) rest ∙ whole) (Each-append IsNQuadsTerm before (t ∷ []) good (fine.0, tt)) fine.1 fresh.1 in
+      let new : is_marked marked (map serialization before) (serialization t) ≡ not (has_term earlier t) =
+      term_marked before rest t whole good fine.0 ∙ ap not (ap (λ b. has_term earlier t || b) fresh.0 ∙ or_none (has_term earlier t)) in
+      (λ i. if new i then serialization t ∷ others i else others i) ∙ mapped (not (has_term earlier t)) kept
+    where
+      or_none : (b : Bool) → (b || false) ≡ b
+      or_none true = refl
+      or_none false = refl
+
+      mapped : (b : Bool) (us : List Term) → (if b then serialization t ∷ map serialization us else map serialization us) ≡ map serialization (cond b (t ∷ us) us)
+      mapped true us = refl
+      mapped false us = refl
 
 module _ (k : ℕ) (some : 0 < k) where
-  -- the new terms of a block in a partition
-  abbrev new_part : List Term → List Term → ℕ → List Term
-  new_part earlier ts n = new_terms (terms_in k n earlier) (terms_in k n ts)
-
-  has_new_part : (earlier ts : List Term) (t : Term) (n : ℕ) → has_term (new_part earlier ts n) t ≡ (eqb (term_hash t % k) n && (not (has_term earlier t) && has_term ts t))
-  has_new_part earlier ts t n =
-      let inside : Term → Bool = λ u. is_in k n (term_hash u) in
-      any-filter_is term_eq term_decides (λ u. not (has_term (terms_in k n earlier) u)) t (first_appearances (terms_in k n ts))
-      ∙ (λ i. not (any-filter_is term_eq term_decides inside t earlier i) && (has_appearances (terms_in k n ts) t ∙ any-filter_is term_eq term_decides inside t ts) i)
-      ∙ new_here (is_in k n (term_hash t)) (has_term earlier t) (has_term ts t)
-
-  kept_terms : (earlier ts : List Term) → filter (has_term (lists_below (new_part earlier ts) k)) ts ≡ filter (λ t. not (has_term earlier t)) ts
-  kept_terms earlier ts =
-      filter_same (has_term (lists_below (new_part earlier ts) k)) (λ t. not (has_term earlier t) && has_term ts t)
-      (λ t. some_part (new_part earlier ts) t (term_hash t % k) (not (has_term earlier t) && has_term ts t) (has_new_part earlier ts t) k (mod_below (term_hash t) k some)) ts
-      ∙ filter_members (λ t. not (has_term earlier t)) (has_term ts) ts (own_members ts)
+  -- the lines that the blocks have for a partition
+  abbrev columns : ℕ → List (List QuadParts) → List (List (List ℕ))
+  columns n quads = map (λ qs. map serialization (terms_in k n (first_appearances (terms_of qs)))) quads
 
   -- what `keep` writes for one block
-  kept_block : (earlier : List Term) (qs : List QuadParts) (text : List ℕ) → Each IsNQuadsTerm (terms_of qs)
-      → IsKept (block_terms qs) (texts_below (λ n. term_document (new_part earlier (first_appearances (terms_of qs)) n)) k) text
+  kept_block : (earlier : List Term) (qs : List QuadParts) (text : List ℕ) → Each IsNQuadsTerm earlier → Each IsNQuadsTerm (terms_of qs)
+      → IsKept (block_terms qs) (each_below (λ n. marks (map serialization (terms_in k n earlier)) (map serialization (terms_in k n (first_appearances (terms_of qs))))) k) text
       → text ≡ term_lines (new_terms earlier (terms_of qs))
-  kept_block earlier qs text good h =
+  kept_block earlier qs text known good h =
       let ts = first_appearances (terms_of qs) in
       let fine = each_appearances (terms_of qs) good in
-      let own : h.terms ≡ ts = objects_read ts h.terms fine h.objects in
-      let part : (n : ℕ) → Each IsNQuadsTerm (new_part earlier ts n) =
-      λ n. Each-filter IsNQuadsTerm (λ t. not (has_term (terms_in k n earlier) t)) (first_appearances (terms_in k n ts)) (each_appearances (terms_in k n ts) (Each-filter IsNQuadsTerm (λ t. is_in k n (term_hash t)) ts fine)) in
-      let new : h.new ≡ lists_below (new_part earlier ts) k =
-      objects_read (lists_below (new_part earlier ts) k) h.new (each_below (new_part earlier ts) k part) (subst (λ d. HaveObjects d h.new) (below_document (new_part earlier ts) k) h.new_objects) in
-      h.kept ∙ (λ i. term_lines (filter (has_term (new i)) (own i))) ∙ ap term_lines (kept_terms earlier ts)
-
-  abbrev columns : ℕ → List (List QuadParts) → List (List Term)
-  columns n quads = map (λ qs. terms_in k n (first_appearances (terms_of qs))) quads
+      let f : ℕ → List ℕ = λ n. marks (map serialization (terms_in k n earlier)) (map serialization (terms_in k n ts)) in
+      h.kept ∙ ap (λ l. line_list (marked_lines (each_below f k) [] l)) (lines_of_terms ts fine)
+      ∙ ap line_list (kept_terms k some earlier ts known (each_below f k) (below_long f k) (below_at f k) [] ts refl tt fine (all_fresh (terms_of qs)))
+      ∙ term_list (new_terms earlier (terms_of qs))
 
   -- what `keep` writes for all blocks
-  kept_blocks : (earlier : List Term) (quads : List (List QuadParts)) (kept : List (List ℕ)) → Each (λ qs. Each IsNQuadsTerm (terms_of qs)) quads → length kept ≡ length quads
+  kept_blocks : (earlier : List Term) (quads : List (List QuadParts)) (kept : List (List ℕ)) → Each IsNQuadsTerm earlier → Each (λ qs. Each IsNQuadsTerm (terms_of qs)) quads → length kept ≡ length quads
       → ((b : ℕ) → b < length quads
-      → IsKept (block_terms (get_or quads b [])) (texts_below (λ n. get_or (map term_document (new_in_turn (terms_in k n earlier) (columns n quads))) b []) k) (get_or kept b []))
+      → IsKept (block_terms (get_or quads b [])) (each_below (λ n. get_or (marks_in_turn (map serialization (terms_in k n earlier)) (columns n quads)) b []) k) (get_or kept b []))
       → joined_texts kept ≡ term_lines (new_terms earlier (flat_map terms_of quads))
-  kept_blocks earlier [] [] good same h = refl
-  kept_blocks earlier [] (text ∷ kept) good same h = absurd (omega (arith, same))
-  kept_blocks earlier (qs ∷ quads) [] good same h = absurd (omega (arith, same))
-  kept_blocks earlier (qs ∷ quads) (text ∷ kept) good same h =
+  kept_blocks earlier [] [] known good same h = refl
+  kept_blocks earlier [] (text ∷ kept) known good same h = absurd (omega (arith, same))
+  kept_blocks earlier (qs ∷ quads) [] known good same h = absurd (omega (arith, same))
+  kept_blocks earlier (qs ∷ quads) (text ∷ kept) known good same h =
       let ts = first_appearances (terms_of qs) in
-      let longer : (n : ℕ) → terms_in k n earlier ++ terms_in k n ts ≡ terms_in k n (earlier ++ ts) = λ n. sym (filter-append (λ t. is_in k n (term_hash t)) earlier ts) in
+      let longer : (n : ℕ) → map serialization (terms_in k n earlier) ++ map serialization (terms_in k n ts) ≡ map serialization (terms_in k n (earlier ++ ts)) =
+      λ n. sym (map-append serialization (terms_in k n earlier) (terms_in k n ts)) ∙ ap (map serialization) (sym (filter-append (λ t. is_in k n (term_hash t)) earlier ts)) in
       let rest : joined_texts kept ≡ term_lines (new_terms (earlier ++ ts) (flat_map terms_of quads)) =
-      kept_blocks (earlier ++ ts) quads kept good.1 (omega (arith, same))
-      (λ b low. subst (λ (e : ℕ → List Term). IsKept (block_terms (get_or quads b [])) (texts_below (λ n. get_or (map term_document (new_in_turn (e n) (columns n quads))) b []) k) (get_or kept b []))
+      kept_blocks (earlier ++ ts) quads kept (Each-append IsNQuadsTerm earlier ts known (each_appearances (terms_of qs) good.0)) good.1 (omega (arith, same))
+      (λ b low. subst (λ (e : ℕ → List (List ℕ)). IsKept (block_terms (get_or quads b [])) (each_below (λ n. get_or (marks_in_turn (e n) (columns n quads)) b []) k) (get_or kept b []))
       (λ i n. longer n i) (h (suc b) (omega (arith, low)))) in
-      (λ i. kept_block earlier qs text good.0 (h 0 (omega arith)) i ++ rest i)
+      (λ i. kept_block earlier qs text known good.0 (h 0 (omega arith)) i ++ rest i)
       ∙ sym (flat_map-append term_line (new_terms earlier (terms_of qs)) (new_terms (earlier ++ ts) (flat_map terms_of quads)))
       ∙ ap term_lines (sym (new_in_both earlier (terms_of qs) (flat_map terms_of quads)))
 
@@ -223,16 +270,14 @@ module _ (k : ℕ) (some : 0 < k) where
 
 -- what `first` wrote for a partition
 firsts_are : (k n : ℕ) (quads : List (List QuadParts)) (firsts : List (List ℕ)) → Each (λ qs. Each IsNQuadsTerm (terms_of qs)) quads
-    → AreFirst (partition_terms k quads n) firsts → firsts ≡ map term_document (new_in_turn [] (map (λ qs. terms_in k n (first_appearances (terms_of qs))) quads))
-firsts_are k n quads firsts good h = h.new ∙ ap (λ l. map term_document (new_in_turn [] l)) (by quads h.lists good h.objects)
+    → AreFirst (partition_terms k quads n) firsts → firsts ≡ marks_in_turn [] (map (λ qs. map serialization (terms_in k n (first_appearances (terms_of qs)))) quads)
+firsts_are k n quads firsts good h = h ∙ ap (marks_in_turn []) (by quads good)
   where
-    by : (qss : List (List QuadParts)) (lists : List (List Term)) → Each (λ qs. Each IsNQuadsTerm (terms_of qs)) qss → AllZip HaveObjects (partition_terms k qss n) lists
-        → lists ≡ map (λ qs. terms_in k n (first_appearances (terms_of qs))) qss
-    by [] [] g z = refl
-    by [] (l ∷ ls) g z = absurd z
-    by (qs ∷ qss) [] g z = absurd z
-    by (qs ∷ qss) (l ∷ ls) g z =
-        (λ i. objects_read (terms_in k n (first_appearances (terms_of qs))) l (Each-filter IsNQuadsTerm (λ t. is_in k n (term_hash t)) (first_appearances (terms_of qs)) (each_appearances (terms_of qs) g.0)) z.0 i ∷ by qss ls g.1 z.1 i)
+    by : (qss : List (List QuadParts)) → Each (λ qs. Each IsNQuadsTerm (terms_of qs)) qss
+        → map lines (partition_terms k qss n) ≡ map (λ qs. map serialization (terms_in k n (first_appearances (terms_of qs)))) qss
+    by [] g = refl
+    by (qs ∷ qss) g =
+        λ i. lines_of_terms (terms_in k n (first_appearances (terms_of qs))) (Each-filter IsNQuadsTerm (λ t. is_in k n (term_hash t)) (first_appearances (terms_of qs)) (each_appearances (terms_of qs) g.0)) i ∷ by qss g.1 i
 
 each_terms : (quads : List (List QuadParts)) → Each (Each IsOfLine) quads → Each (λ qs. Each IsNQuadsTerm (terms_of qs)) quads
 each_terms [] h = tt
@@ -241,8 +286,8 @@ each_terms (qs ∷ quads) h = (terms_of_lines qs h.0, each_terms quads h.1)
 pub terms_are_kept : TermsAreKept
 terms_are_kept k blocks quads firsts kept some h first same keep =
     let good = each_terms quads (block_quads blocks quads h.statements) in
-    kept_blocks k some [] quads kept good same
-    (λ b low. subst (λ (f : ℕ → List (List ℕ)). IsKept (block_terms (get_or quads b [])) (texts_below (λ n. get_or (f n) b []) k) (get_or kept b []))
+    kept_blocks k some [] quads kept tt good same
+    (λ b low. subst (λ (f : ℕ → List (List ℕ)). IsKept (block_terms (get_or quads b [])) (each_below (λ n. get_or (f n) b []) k) (get_or kept b []))
     (λ i n. firsts_are k n quads (firsts n) good (first n) i) (keep b low))
     ∙ ap term_lines (all_stay (first_appearances (flat_map terms_of quads)))
     ∙ ap (λ l. term_lines (first_appearances l)) (sym (flat_map-joined terms_of_quad quads))

@@ -1,5 +1,5 @@
 -- What the laws of this crate say: the counts of the partitions are those of the whole document (laws of this project).
-use Rattle.std.specs.Prelude.{◌≡◌, ◌⊎◌, ℕ, ◌+◌, ◌<◌, List, [], ◌∷◌, map, length, get_or, ⊤}
+use Rattle.std.specs.Prelude.{◌≡◌, ◌⊎◌, ℕ, zero, suc, ◌+◌, ◌<◌, List, [], ◌∷◌, ◌++◌, map, length, get_or, ⊤}
 use Rattle.std.specs.List.{AllZip}
 use Rattle.rdf_core.specs.QuadParts.{QuadParts}
 use Rattle.nquads_core.specs.Lines.{lines, EndsLine}
@@ -78,17 +78,22 @@ QuadsAddUp =
     → sum_below (λ n. length (single (hashes_gathered partitions quads n)) + counts n) partitions
     ≡ length (without_repeats same_parts (joined quads))
 
--- the document of the terms of a block
+-- the list of the terms of a block
 abbrev pub block_terms : List QuadParts → List ℕ
-block_terms qs = term_document (first_appearances (terms_of qs))
+block_terms qs = term_lines (first_appearances (terms_of qs))
 
--- the documents of terms that the blocks have for a partition
+-- the lists of terms that the blocks have for a partition
 abbrev pub partition_terms : ℕ → List (List QuadParts) → ℕ → List (List ℕ)
-partition_terms partitions quads n = map (λ qs. term_document (terms_in partitions n (first_appearances (terms_of qs)))) quads
+partition_terms partitions quads n = map (λ qs. term_lines (terms_in partitions n (first_appearances (terms_of qs)))) quads
 
--- the new terms of a block in all partitions, if these are its new terms in each
-abbrev pub news_of : ℕ → (ℕ → List (List ℕ)) → ℕ → List ℕ
-news_of partitions firsts block = texts_below (λ n. get_or (firsts n) block []) partitions
+-- f at 0, 1, .. up to n - 1
+abbrev pub each_below : (ℕ → List ℕ) → ℕ → List (List ℕ)
+each_below f zero = []
+each_below f (suc n) = each_below f n ++ f n ∷ []
+
+-- the marks of a block in each partition, if these are the marks of all blocks in each
+abbrev pub marks_of : ℕ → (ℕ → List (List ℕ)) → ℕ → List (List ℕ)
+marks_of partitions firsts block = each_below (λ n. get_or (firsts n) block []) partitions
 
 -- What `keep` writes for the blocks, one after the other, are the terms of the document by first appearance.
 abbrev pub TermsAreKept : Type 0
@@ -97,5 +102,5 @@ TermsAreKept =
     → 0 < partitions → AreBlocks blocks quads
     → ((n : ℕ) → AreFirst (partition_terms partitions quads n) (firsts n))
     → length kept ≡ length quads
-    → ((b : ℕ) → b < length quads → IsKept (block_terms (get_or quads b [])) (news_of partitions firsts b) (get_or kept b []))
+    → ((b : ℕ) → b < length quads → IsKept (block_terms (get_or quads b [])) (marks_of partitions firsts b) (get_or kept b []))
     → joined_texts kept ≡ term_lines (first_appearances (terms_of (joined quads)))

@@ -3,6 +3,7 @@ pub mod Seal
 pub mod Parts
 pub mod Repeated
 pub mod Terms
+pub mod Known
 pub mod Keys
 pub mod Output
 pub mod NumberedHash

@@ -1,6 +1,5 @@
 -- What the commands write (choices of this project).
-use Rattle.std.specs.Prelude.{◌≡◌, ℕ, List, [], ◌++◌, Option, Some, None, is_none, map, filter, length, if◌then◌else◌}
-use Rattle.std.specs.List.{AllZip}
+use Rattle.std.specs.Prelude.{◌≡◌, ℕ, ◌<◌, List, [], ◌++◌, Option, Some, None, is_none, map, filter, get_or, length, if◌then◌else◌}
 use Rattle.rdf_core.specs.declared.term.Term.{Term}
 use Rattle.rdf_core.specs.QuadParts.{QuadParts}
 use Rattle.nquads_core.specs.Lines.{lines}
@@ -13,7 +12,7 @@ use Rattle.cluster_parts.specs.Hash.{number_bytes, quad_hash}
 use Rattle.cluster_parts.specs.Seal.{sealed}
 use Rattle.cluster_parts.specs.Parts.{term_document, terms_in, hashes_in, number_list, quad_document, quads_in, texts_below}
 use Rattle.cluster_parts.specs.Repeated.{has, is_repeated}
-use Rattle.cluster_parts.specs.Terms.{HaveObjects, has_term, new_in_turn, term_lines}
+use Rattle.cluster_parts.specs.Terms.{line_list, lines_in, marked_lines, marks_in_turn, term_lines}
 
 -- three sealed texts: terms and graph names of a partition, and its hashes
 abbrev pub counting_part : ℕ → List Term → List Term → List ℕ → ℕ → List ℕ
@@ -59,23 +58,19 @@ AreRepeated hashes repeated = (h : ℕ) → has repeated h ≡ is_repeated hashe
 
 -- the sealed terms of a partition
 abbrev pub terms_part : ℕ → List Term → ℕ → List ℕ
-terms_part partitions terms number = sealed (term_document (terms_in partitions number terms))
+terms_part partitions terms number = sealed (term_lines (terms_in partitions number terms))
 
 -- `split terms`: the number of lines, the distinct terms, and those of each partition
 abbrev pub terms_parts : ℕ → ℕ → List Term → List ℕ
 terms_parts partitions count terms =
-    sealed (number_bytes count) ++ (sealed (term_document terms) ++ texts_below (terms_part partitions terms) partitions)
+    sealed (number_bytes count) ++ (sealed (term_lines terms) ++ texts_below (terms_part partitions terms) partitions)
 
--- `first`: of each document the terms that no document before it has, as a document
-pub record AreFirst (documents firsts : List (List ℕ)) : Type 0 where
-  pub lists : List (List Term)
-  pub objects : AllZip HaveObjects documents lists
-  pub new : firsts ≡ map term_document (new_in_turn [] lists)
+-- `first`: which lines of each list are new
+abbrev pub AreFirst : List (List ℕ) → List (List ℕ) → Type 0
+AreFirst lists firsts = firsts ≡ marks_in_turn [] (map lines lists)
 
--- `keep`: the terms of a document that another one has, too, each on a line of its own
-pub record IsKept (document news output : List ℕ) : Type 0 where
-  pub terms : List Term
-  pub new : List Term
-  pub objects : HaveObjects document terms
-  pub new_objects : HaveObjects news new
-  pub kept : output ≡ term_lines (filter (has_term new) terms)
+-- `keep`: the lines of a list that are marked as new, where each partition has a mark for each of its lines
+pub record IsKept (list : List ℕ) (marks : List (List ℕ)) (output : List ℕ) : Type 0 where
+  pub some : 0 < length marks
+  pub each : (n : ℕ) → n < length marks → length (get_or marks n []) ≡ length (lines_in (length marks) n (lines list))
+  pub kept : output ≡ line_list (marked_lines marks [] (lines list))

@@ -1,106 +1,111 @@
 //! The terms of a block that are new in the document.
-ghost use Rattle.std.specs.Prelude.{◌≡◌, ◌<◌, ◌++◌, [], List, ℕ, codes, filter, if◌then◌else◌, length, map, IfOk, OnOk};
-ghost use Rattle.indexmap.specs.IndexSet.{insert_all};
-ghost use Rattle.rdf_core.specs.declared.term.Term.{Term};
-ghost use Rattle.rdf_core.specs.Equality.{term_eq};
-ghost use Rattle.rdf_core.specs.Serialization.{serialization};
-ghost use Rattle.dict_core.specs.NumQuad.{AreBelow, quads_at};
-ghost use Rattle.cluster_parts.specs.Seal.{all_sealed, joined_texts, sealed};
-ghost use Rattle.cluster_parts.specs.Terms.{HaveObjects, has_term, term_lines};
+ghost use Rattle.std.specs.Prelude.{◌≡◌, ◌==◌, ◌+◌, ◌^◌, ◌<◌, ◌++◌, ◌∷◌, [], List, ℕ, true, codes, get_or, if◌then◌else◌, length, map, IfOk, IfSome, OnOk, OnSome};
+ghost use Rattle.nquads_core.specs.Lines.{lines};
+ghost use Rattle.cluster_parts.specs.Seal.{all_sealed, sealed};
+ghost use Rattle.cluster_parts.specs.Terms.{is_marked, line_list, marked_lines};
+ghost use Rattle.cluster_parts.specs.Known.{AreTaken, texts_of};
 ghost use Rattle.cluster_parts.specs.Output.{IsKept};
 
-use crate::new_terms::{add_objects, read_document};
-use crate::sealing::{SealFault, first_sealed, join_sealed};
-use dict_core::{Dict, LocalPiece, NumQuad};
-use rdf_core::{Term, write_term};
+use crate::hashing::hash_of;
+use crate::sealing::{SealFault, first_sealed, sealed_texts};
+use nquads_core::first_line;
 use std::alloc::{AllocError, Global};
-use std::hash::RandomState;
 
-/// Returns whether the term is in the dictionary.
-fn is_known(known: &Dict, term: &Term) -> bool
-    ensures value { result ≡ has_term known.now term.now }
+/// Returns whether the mark at a place is that of a new line, or None if there is no mark.
+fn mark_at(marks: &[u8], place: usize) -> Option<bool>
+    ensures value { IfSome result (λ is_new. is_new ≡ (get_or marks.now place 0 == 1)) }
+    ensures small { OnSome result (place + 1 < 2 ^ 64) }
 {
-    known.number_of(term).is_some()
+    if place >= marks.len() {
+        return None;
+    }
+    Some(marks[place] == 1)
 }
 
-/// Appends a term on a line of its own, if it is in the dictionary.
-fn push_if_known(out: &mut Vec<u8>, known: &Dict, term: &Term) -> Result<(), AllocError>
-    ensures appended { OnOk result (out.new.items ≡ out.old.items
-        ++ (if has_term known.now term.now then serialization term.now ++ codes "\n" else [])) }
+/// Takes the next mark of the partition of a line. `taken` are the numbers of marks that were taken of the partitions.
+///
+/// # Errors
+/// `Damaged` if the partition has no more marks.
+fn take_mark(marks: &[&[u8]], taken: &mut Vec<usize>, line: &[u8]) -> Result<bool, SealFault>
+    requires some { 0 < length marks.now }
+    requires all { length taken.old.items ≡ length marks.now }
+    ensures all { length taken.new.items ≡ length marks.now }
+    ensures mark { IfOk result (λ is_new. (before : List (List ℕ)) → AreTaken (length marks.now) before taken.old.items
+        → is_new ≡ is_marked (texts_of marks.now) before line.now) }
+    ensures taken { OnOk result ((before : List (List ℕ)) → AreTaken (length marks.now) before taken.old.items
+        → AreTaken (length marks.now) (before ++ line.now ∷ []) taken.new.items) }
 {
-    if is_known(known, term) {
-        write_term(term, out)?;
+    let number = (hash_of(line) % marks.len() as u64) as usize;
+    let place = taken[number];
+    let Some(is_new) = mark_at(marks[number], place) else {
+        return Err(SealFault::Damaged);
+    };
+    taken[number] = place + 1;
+    Ok(is_new)
+}
+
+/// Appends a text on a line of its own, if it is new.
+fn push_if_new(out: &mut Vec<u8>, line: &[u8], is_new: bool) -> Result<(), AllocError>
+    ensures appended { OnOk result (out.new.items ≡ out.old.items
+        ++ (if is_new then line.now ++ codes "\n" else [])) }
+{
+    if is_new {
+        out.extend_from_slice(line)?;
         out.extend_from_slice(b"\n")?;
     }
     Ok(())
 }
 
-/// Returns the objects of quads of numbers that are in the dictionary, each on a line of its own.
-fn known_objects_at(
-    alloc: Global,
-    known: &Dict,
-    terms: &Dict,
-    quads: &[NumQuad],
-) -> Result<Vec<u8>, AllocError>
-    requires below { AreBelow (length terms.now) quads.now }
-    ensures text { IfOk result (λ text. text.items
-        ≡ term_lines (filter (has_term known.now) (map (λ q. q.o) (quads_at terms.now quads.now)))) }
+/// Returns whether all marks were taken.
+fn are_taken(marks: &[&[u8]], taken: &[usize]) -> bool
+    requires all { length taken.now ≡ length marks.now }
+    ensures each { result ≡ true → (n : ℕ) → n < length marks.now
+        → length (get_or (texts_of marks.now) n []) ≡ get_or taken.now n 0 }
 {
-    let mut text = Vec::new(alloc);
-    for quad in quads {
-        push_if_known(&mut text, known, terms.term(quad.o))?;
+    for n in 0..marks.len() {
+        if marks[n].len() != taken[n] {
+            return false;
+        }
     }
-    Ok(text)
+    true
 }
 
-/// Returns the objects of quads that are in the dictionary, each on a line of its own.
-fn known_objects(alloc: Global, known: &Dict, piece: &LocalPiece) -> Result<Vec<u8>, AllocError>
-    ensures text { IfOk result
-        (λ text. text.items ≡ term_lines (filter (has_term known.now) (map (λ q. q.o) piece.now))) }
+/// Returns the lines of a list that have the mark of a new line.
+fn kept_of(alloc: Global, list: &[u8], marks: &[&[u8]]) -> Result<Vec<u8>, SealFault>
+    ensures kept { IfOk result (λ text. IsKept list.now (texts_of marks.now) text.items) }
 {
-    let text = known_objects_at(alloc, known, piece.dict(), piece.quads())?;
-    Ok(text)
+    if marks.is_empty() {
+        return Err(SealFault::Damaged);
+    }
+    let mut taken = vec![in alloc; 0usize; marks.len()]?;
+    let mut out = Vec::new(alloc);
+    let mut rest = list;
+    while !rest.is_empty() {
+        let (line, after) = first_line(rest);
+        let is_new = take_mark(marks, &mut taken, line)?;
+        push_if_new(&mut out, line, is_new)?;
+        rest = after;
+    }
+    if !are_taken(marks, taken.as_slice()) {
+        return Err(SealFault::Damaged);
+    }
+    Ok(out)
 }
 
-/// Returns the objects of a document.
-fn objects_of(alloc: Global, state: RandomState, document: &[u8]) -> Result<Dict, SealFault>
-    ensures objects { IfOk result (λ known. (terms : List Term) × HaveObjects document.now terms
-        × (known ≡ insert_all term_eq [] terms)) }
-{
-    let piece = read_document(alloc, state, document)?;
-    let mut known = Dict::new(alloc, state)?;
-    add_objects(alloc, &mut known, &piece)?;
-    Ok(known)
-}
-
-/// Returns the objects of a document that another one has, too.
-fn kept_of(
-    alloc: Global,
-    state: RandomState,
-    document: &[u8],
-    news: &[u8],
-) -> Result<Vec<u8>, SealFault>
-    ensures kept { IfOk result (λ text. IsKept document.now news.now text.items) }
-{
-    let known = objects_of(alloc, state, news)?;
-    let piece = read_document(alloc, state, document)?;
-    let text = known_objects(alloc, &known, &piece)?;
-    Ok(text)
-}
-
-/// Returns the objects of the first sealed document that the other sealed documents have, too, each on a line of its
-/// own (`IsKept`).
+/// Returns the new lines of the first sealed text, each on a line of its own. The sealed texts after it are the marks that
+/// [`first_terms`](crate::first_terms) returns for the partitions, in order (`IsKept`).
 ///
 /// # Errors
 /// - `Version` if a text begins with another head.
-/// - `Damaged` if a text is shorter than its length says, has another checksum, or has a malformed line.
+/// - `Damaged` if a text is shorter than its length says, or has another checksum, if there is no partition, or if a
+///   partition does not have one mark for each of its lines.
 /// - `Memory` if an allocation fails.
-pub fn keep_terms(alloc: Global, state: RandomState, bytes: &[u8]) -> Result<Vec<u8>, SealFault>
-    ensures kept { IfOk result (λ text. (document : List ℕ) × (texts : List (List ℕ))
-        × (bytes.now ≡ sealed document ++ all_sealed texts) × IsKept document (joined_texts texts) text.items) }
+pub fn keep_terms(alloc: Global, bytes: &[u8]) -> Result<Vec<u8>, SealFault>
+    ensures kept { IfOk result (λ text. (list : List ℕ) × (marks : List (List ℕ))
+        × (bytes.now ≡ sealed list ++ all_sealed marks) × IsKept list marks text.items) }
 {
-    let (document, rest) = first_sealed(bytes)?;
-    let news = join_sealed(alloc, rest)?;
-    let text = kept_of(alloc, state, document, news.as_slice())?;
+    let (list, rest) = first_sealed(bytes)?;
+    let marks = sealed_texts(alloc, rest)?;
+    let text = kept_of(alloc, list, marks.as_slice())?;
     Ok(text)
 }

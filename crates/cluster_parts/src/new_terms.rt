@@ -1,107 +1,80 @@
-//! Which terms of the documents of a partition are new.
-ghost use Rattle.std.specs.Prelude.{◌≡◌, ◌++◌, [], List, ℕ, drop, length, map, IfOk, OnOk};
-ghost use Rattle.indexmap.specs.IndexSet.{insert_all};
-ghost use Rattle.rdf_core.specs.declared.term.Term.{Term};
-ghost use Rattle.rdf_core.specs.Equality.{term_eq};
+//! Which lines of the lists of a partition are new.
+ghost use Rattle.std.specs.Prelude.{◌≡◌, ◌∷◌, ◌++◌, ◌||◌, [], List, ℕ, not, map, IfOk, OnOk};
+ghost use Rattle.std.specs.Str.{bytes_eq};
 ghost use Rattle.nquads_core.specs.Lines.{lines};
-ghost use Rattle.nquads_core.specs.Pieces.{HaveStatements};
-ghost use Rattle.dict_core.specs.NumQuad.{AreBelow, quads_at};
-ghost use Rattle.cluster_parts.specs.Parts.{term_document};
-ghost use Rattle.cluster_parts.specs.Seal.{all_sealed, sealed};
-ghost use Rattle.cluster_parts.specs.Terms.{HaveObjects};
+ghost use Rattle.cluster_parts.specs.Seal.{all_sealed};
+ghost use Rattle.cluster_parts.specs.Terms.{has_line, mark, marks};
+ghost use Rattle.cluster_parts.specs.Known.{AreKnown, known_lines};
 ghost use Rattle.cluster_parts.specs.Output.{AreFirst};
 
-use crate::graph_names::add_name;
-use crate::numbering::number_lines;
 use crate::sealing::{SealFault, first_sealed, push_sealed};
-use crate::term_parts::terms_from;
-use dict_core::{Dict, LocalPiece, NumQuad};
-use nquads_core::PieceFault;
+use indexmap::IndexSet;
+use nquads_core::first_line;
 use std::alloc::{AllocError, Global};
 use std::hash::RandomState;
 
-/// Reads a document that is in a sealed text.
-///
-/// # Errors
-/// `Damaged` if a line is malformed.
-pub(crate) fn read_document(
-    alloc: Global,
-    state: RandomState,
-    document: &[u8],
-) -> Result<LocalPiece, SealFault>
-    ensures statements { IfOk result (λ piece. HaveStatements (lines document.now) piece) }
+/// Adds a line to those that are known, and returns whether it is new.
+fn add_line<'a>(
+    known: &mut IndexSet<&'a [u8], RandomState>,
+    line: &'a [u8],
+) -> Result<bool, AllocError>
+    ensures new { IfOk result (λ is_new. is_new ≡ not (has_line (known_lines known.old) line.now)) }
+    ensures known { OnOk result ((l : List ℕ)
+        → has_line (known_lines known.new) l ≡ (has_line (known_lines known.old) l || bytes_eq l line.now)) }
 {
-    match number_lines(alloc, state, document) {
-        Ok(numbered) => Ok(numbered.piece),
-        Err(PieceFault::BadLine(_)) => Err(SealFault::Damaged),
-        Err(PieceFault::Memory) => Err(SealFault::Memory),
+    match known.insert(line) {
+        Ok(is_new) => Ok(is_new),
+        Err(_) => Err(AllocError),
     }
 }
 
-/// Adds the objects of quads of numbers that are not known.
-fn add_objects_at(
-    alloc: Global,
-    known: &mut Dict,
-    terms: &Dict,
-    quads: &[NumQuad],
-) -> Result<(), AllocError>
-    requires below { AreBelow (length terms.now) quads.now }
-    ensures terms { OnOk result (known.new
-        ≡ insert_all term_eq known.old (map (λ q. q.o) (quads_at terms.now quads.now))) }
+/// Returns the mark of a line: 1 if it is new, and 0 otherwise.
+fn mark_of(is_new: bool) -> u8
+    ensures value { result ≡ mark is_new }
 {
-    for quad in quads {
-        add_name(alloc, known, terms.term(quad.o))?;
+    if is_new { 1 } else { 0 }
+}
+
+/// Adds the lines of a list to those that are known, and returns the mark of each.
+fn marks_of<'a>(
+    alloc: Global,
+    known: &mut IndexSet<&'a [u8], RandomState>,
+    list: &'a [u8],
+) -> Result<Vec<u8>, AllocError>
+    ensures marks { IfOk result (λ made. (earlier : List (List ℕ)) → AreKnown earlier known.old
+        → made.items ≡ marks earlier (lines list.now)) }
+    ensures known { OnOk result ((earlier : List (List ℕ)) → AreKnown earlier known.old
+        → AreKnown (earlier ++ lines list.now) known.new) }
+{
+    let mut made = Vec::new(alloc);
+    let mut rest = list;
+    while !rest.is_empty() {
+        let (line, after) = first_line(rest);
+        let is_new = add_line(known, line)?;
+        made.push(mark_of(is_new))?;
+        rest = after;
     }
-    Ok(())
+    Ok(made)
 }
 
-/// Adds the objects of quads that are not known.
-pub(crate) fn add_objects(
-    alloc: Global,
-    known: &mut Dict,
-    piece: &LocalPiece,
-) -> Result<(), AllocError>
-    ensures terms { OnOk result (known.new ≡ insert_all term_eq known.old (map (λ q. q.o) piece.now)) }
-{
-    add_objects_at(alloc, known, piece.dict(), piece.quads())?;
-    Ok(())
-}
-
-/// Adds the objects of a document, and appends those that were not known, sealed.
-fn push_new(
-    alloc: Global,
-    known: &mut Dict,
-    out: &mut Vec<u8>,
-    piece: &LocalPiece,
-) -> Result<(), AllocError>
-    ensures known { OnOk result (known.new ≡ insert_all term_eq known.old (map (λ q. q.o) piece.now)) }
-    ensures appended { OnOk result (out.new.items
-        ≡ out.old.items ++ sealed (term_document (drop (length known.old) known.new))) }
-{
-    let before = known.len() as u64;
-    add_objects(alloc, known, piece)?;
-    let document = terms_from(alloc, known, before)?;
-    push_sealed(out, document.as_slice())?;
-    Ok(())
-}
-
-/// Returns, for each of the sealed documents of a partition, the objects that no document before it has (`AreFirst`).
+/// Returns, for each of the sealed lists of a partition, the mark of each line: 1 if neither a list before it nor the list
+/// itself before the line has it, and 0 otherwise (`AreFirst`).
 ///
 /// # Errors
 /// - `Version` if a text begins with another head.
-/// - `Damaged` if a text is shorter than its length says, has another checksum, or has a malformed line.
+/// - `Damaged` if a text is shorter than its length says, or has another checksum.
 /// - `Memory` if an allocation fails.
 pub fn first_terms(alloc: Global, state: RandomState, bytes: &[u8]) -> Result<Vec<u8>, SealFault>
     ensures firsts { IfOk result (λ out. (texts : List (List ℕ)) × (firsts : List (List ℕ))
         × (bytes.now ≡ all_sealed texts) × AreFirst texts firsts × (out.items ≡ all_sealed firsts)) }
 {
-    let mut known = Dict::new(alloc, state)?;
+    let mut known = IndexSet::with_hasher(alloc, state);
     let mut out = Vec::new(alloc);
     let mut rest = bytes;
     while !rest.is_empty() {
-        let (text, after) = first_sealed(rest)?;
-        let piece = read_document(alloc, state, text)?;
-        push_new(alloc, &mut known, &mut out, &piece)?;
+        let (list, after) = first_sealed(rest)?;
+        let made = marks_of(alloc, &mut known, list)?;
+        push_sealed(&mut out, made.as_slice())?;
         rest = after;
     }
     Ok(out)

@@ -3,6 +3,7 @@ ghost use Rattle.std.specs.Prelude.{◌≡◌, ◌∷◌, ◌++◌, [], List, �
 ghost use Rattle.cluster_parts.specs.Hash.{hash, number_bytes};
 ghost use Rattle.cluster_parts.specs.Seal.{all_sealed, joined_texts, seal_head, sealed};
 ghost use Rattle.cluster_parts.specs.Parts.{number_list};
+ghost use Rattle.cluster_parts.specs.Known.{texts_of};
 
 use crate::hashing::hash_of;
 use std::alloc::{AllocError, Global};
@@ -166,6 +167,33 @@ pub fn join_sealed(alloc: Global, bytes: &[u8]) -> Result<Vec<u8>, SealFault>
         rest = after;
     }
     Ok(joined)
+}
+
+/// Returns the texts of a list of sealed texts.
+///
+/// # Errors
+/// As [`join_sealed`].
+pub(crate) fn sealed_texts<'a>(alloc: Global, bytes: &'a [u8]) -> Result<Vec<&'a [u8]>, SealFault>
+    ensures texts { IfOk result (λ texts. bytes.now ≡ all_sealed (texts_of texts.items)) }
+{
+    let mut texts = Vec::new(alloc);
+    let mut rest = bytes;
+    while !rest.is_empty() {
+        let (text, after) = first_sealed(rest)?;
+        push_text(&mut texts, text)?;
+        rest = after;
+    }
+    Ok(texts)
+}
+
+/// Appends a text.
+fn push_text<'a>(texts: &mut Vec<&'a [u8]>, text: &'a [u8]) -> Result<(), AllocError>
+    ensures pushed { OnOk result (texts_of texts.new.items ≡ texts_of texts.old.items ++ text.now ∷ []) }
+{
+    match texts.push(text) {
+        Ok(()) => Ok(()),
+        Err(_) => Err(AllocError),
+    }
 }
 
 /// Reads numbers of eight bytes.

@@ -1,92 +1,141 @@
 //! The terms of a block, in order and by partition.
-ghost use Rattle.std.specs.Prelude.{◌≡◌, ◌<◌, ◌++◌, ℕ, List, drop, length, map, IfErr, IfOk, OnOk};
+ghost use Rattle.std.specs.Prelude.{◌≡◌, ◌<◌, ◌++◌, [], ℕ, List, if◌then◌else◌, length, map, codes, IfErr, IfOk, OnOk};
 ghost use Rattle.rdf_core.specs.QuadParts.{QuadParts};
 ghost use Rattle.nquads_core.specs.Lines.{lines};
 ghost use Rattle.nquads_core.specs.Pieces.{HaveStatements, IsFirstMalformed};
 ghost use Rattle.nquads_core.specs.declared.fault.PieceFault.TheVariants.{BadLine};
 ghost use Rattle.dict_core.specs.Appearances.{first_appearances, terms_of};
-ghost use Rattle.cluster_parts.specs.Hash.{term_hash};
-ghost use Rattle.cluster_parts.specs.Parts.{term_document, texts_below};
-ghost use Rattle.cluster_parts.specs.Output.{terms_part, terms_parts};
+ghost use Rattle.cluster_parts.specs.Hash.{hash};
+ghost use Rattle.cluster_parts.specs.Parts.{is_in, texts_below};
+ghost use Rattle.cluster_parts.specs.Terms.{line_list, lines_in};
+ghost use Rattle.cluster_parts.specs.Known.{lines_part, lines_parts};
+ghost use Rattle.cluster_parts.specs.Output.{terms_parts};
 
-use crate::hashing::hashes_of;
-use crate::numbering::number_lines;
+use crate::hashing::hash_of;
+use crate::numbering::term_texts;
 use crate::sealing::{push_sealed, push_sealed_number};
-use crate::splitting::{push_statement, terms_part};
-use dict_core::{Dict, LocalPiece};
 use nquads_core::PieceFault;
 use std::alloc::{AllocError, Global};
 use std::hash::RandomState;
+use text_dict::TextDict;
 
-/// Returns the terms from this number on as a document.
-pub(crate) fn terms_from(alloc: Global, dict: &Dict, from: u64) -> Result<Vec<u8>, AllocError>
-    ensures document { IfOk result (λ text. text.items ≡ term_document (drop from dict.now)) }
+/// Appends a text on a line of its own.
+fn push_line(out: &mut Vec<u8>, text: &[u8]) -> Result<(), AllocError>
+    ensures appended { OnOk result (out.new.items ≡ out.old.items ++ (text.now ++ codes "\n")) }
 {
-    let mut text = Vec::new(alloc);
-    for n in from..dict.len() as u64 {
-        push_statement(&mut text, dict.term(n))?;
-    }
-    Ok(text)
+    out.extend_from_slice(text)?;
+    out.extend_from_slice(b"\n")
 }
 
-/// Appends the sealed terms of each partition.
-fn push_term_parts(
+/// Returns all texts, each on a line of its own.
+fn all_lines(alloc: Global, texts: &TextDict) -> Result<Vec<u8>, AllocError>
+    ensures list { IfOk result (λ list. list.items ≡ line_list texts.now.texts) }
+{
+    let mut list = Vec::new(alloc);
+    for n in 0..texts.len() as u64 {
+        push_line(&mut list, texts.text(n))?;
+    }
+    Ok(list)
+}
+
+/// Returns the hash of each text.
+fn text_hashes(alloc: Global, texts: &TextDict) -> Result<Vec<u64>, AllocError>
+    ensures hashes { IfOk result (λ hashes. hashes.items ≡ map hash texts.now.texts) }
+{
+    let mut hashes = Vec::with_capacity(alloc, texts.len())?;
+    for n in 0..texts.len() as u64 {
+        hashes.push(hash_of(texts.text(n)))?;
+    }
+    Ok(hashes)
+}
+
+/// Appends a text on a line of its own, if the partition has its hash.
+fn push_if_in(
+    out: &mut Vec<u8>,
+    text: &[u8],
+    hash: u64,
+    partitions: u64,
+    number: u64,
+) -> Result<(), AllocError>
+    requires some { 0 < partitions }
+    ensures appended { OnOk result (out.new.items
+        ≡ out.old.items ++ (if is_in partitions number hash then text.now ++ codes "\n" else [])) }
+{
+    if hash % partitions == number {
+        push_line(out, text)?;
+    }
+    Ok(())
+}
+
+/// Returns the texts of a partition, each on a line of its own.
+fn lines_of_part(
+    alloc: Global,
+    texts: &TextDict,
+    hashes: &[u64],
+    partitions: u64,
+    number: u64,
+) -> Result<Vec<u8>, AllocError>
+    requires hashed { hashes.now ≡ map hash texts.now.texts }
+    requires some { 0 < partitions }
+    ensures list { IfOk result
+        (λ list. list.items ≡ line_list (lines_in partitions number texts.now.texts)) }
+{
+    let mut list = Vec::new(alloc);
+    for n in 0..texts.len() as u64 {
+        push_if_in(
+            &mut list,
+            texts.text(n),
+            hashes[n as usize],
+            partitions,
+            number,
+        )?;
+    }
+    Ok(list)
+}
+
+/// Appends the sealed texts of each partition.
+fn push_line_parts(
     alloc: Global,
     out: &mut Vec<u8>,
-    dict: &Dict,
+    texts: &TextDict,
     hashes: &[u64],
     partitions: u64,
 ) -> Result<(), AllocError>
-    requires hashed { hashes.now ≡ map term_hash dict.now }
+    requires hashed { hashes.now ≡ map hash texts.now.texts }
     requires some { 0 < partitions }
     ensures appended { OnOk result
-        (out.new.items ≡ out.old.items ++ texts_below (terms_part partitions dict.now) partitions) }
+        (out.new.items ≡ out.old.items ++ texts_below (lines_part partitions texts.now.texts) partitions) }
 {
     for number in 0..partitions {
-        let part = terms_part(alloc, dict, hashes, partitions, number)?;
+        let part = lines_of_part(alloc, texts, hashes, partitions, number)?;
         push_sealed(out, part.as_slice())?;
     }
     Ok(())
 }
 
-/// Returns the parts of terms, of a block with this number of lines.
-fn parts_of_terms(
+/// Returns the parts of the texts of a block with this number of lines.
+fn parts_of_texts(
     alloc: Global,
-    dict: &Dict,
+    texts: &TextDict,
     count: u64,
     partitions: u64,
 ) -> Result<Vec<u8>, AllocError>
     requires some { 0 < partitions }
-    ensures parts { IfOk result (λ out. out.items ≡ terms_parts partitions count dict.now) }
+    ensures parts { IfOk result (λ out. out.items ≡ lines_parts partitions count texts.now.texts) }
 {
-    let hashes = hashes_of(alloc, dict)?;
-    let whole = terms_from(alloc, dict, 0)?;
+    let hashes = text_hashes(alloc, texts)?;
+    let whole = all_lines(alloc, texts)?;
     let mut out = Vec::new(alloc);
     push_sealed_number(alloc, &mut out, count)?;
     push_sealed(&mut out, whole.as_slice())?;
-    push_term_parts(alloc, &mut out, dict, hashes.as_slice(), partitions)?;
-    Ok(out)
-}
-
-/// Returns the parts of the terms of a block that has been read.
-fn parts_of_piece(
-    alloc: Global,
-    piece: &LocalPiece,
-    count: u64,
-    partitions: u64,
-) -> Result<Vec<u8>, AllocError>
-    requires some { 0 < partitions }
-    ensures parts { IfOk result (λ out. out.items
-        ≡ terms_parts partitions count (first_appearances (terms_of piece.now))) }
-{
-    let out = parts_of_terms(alloc, piece.dict(), count, partitions)?;
+    push_line_parts(alloc, &mut out, texts, hashes.as_slice(), partitions)?;
     Ok(out)
 }
 
 /// Reads a block of whole lines, and splits its distinct terms by partition (`terms_parts`).
 ///
 /// The first sealed text is the number of lines, as eight bytes. Then comes the list of the distinct terms by first
-/// appearance, as a document of N-Quads, and then such a document for each partition.
+/// appearance, each on a line of its own, and then such a list for each partition.
 ///
 /// # Requires
 /// There is at least one partition.
@@ -106,8 +155,8 @@ pub fn split_for_terms(
     ensures bad_line { IfErr result
         (λ fault. (k : ℕ) → fault ≡ BadLine k → IsFirstMalformed (lines block.now) k) }
 {
-    let numbered = number_lines(alloc, state, block)?;
-    match parts_of_piece(alloc, &numbered.piece, numbered.lines, partitions) {
+    let found = term_texts(alloc, state, block)?;
+    match parts_of_texts(alloc, &found.texts, found.lines, partitions) {
         Ok(out) => Ok(out),
         Err(_) => Err(PieceFault::Memory),
     }

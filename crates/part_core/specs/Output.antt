@@ -75,7 +75,7 @@ pub record IsTermSplit (partitions : ℕ) (input output : List ℕ) : Type 0 whe
   pub statements : HaveStatements (lines input) quads
   pub parts : output ≡ terms_parts partitions (length (lines input)) (first_appearances (terms_of quads))
 
--- `first`: for each of the sealed documents of a partition, in order, the terms that no document before it has
+-- `first`: for each of the sealed lists of a partition, in order, which of its lines no list before it has
 pub record IsFirstOf (input output : List ℕ) : Type 0 where
   pub texts : List (List ℕ)
   pub firsts : List (List ℕ)
@@ -83,12 +83,12 @@ pub record IsFirstOf (input output : List ℕ) : Type 0 where
   pub new : AreFirst texts firsts
   pub sealed_again : output ≡ all_sealed firsts
 
--- `keep`: after the sealed terms of a block those that are new in it, in any order; the new ones in the order of the block
+-- `keep`: after the sealed list of a block which of its lines are new in each partition; the new lines in order
 pub record IsKeptOf (input output : List ℕ) : Type 0 where
-  pub document : List ℕ
-  pub texts : List (List ℕ)
-  pub unsealed : input ≡ sealed document ++ all_sealed texts
-  pub listed : IsKept document (joined_texts texts) output
+  pub list : List ℕ
+  pub marks : List (List ℕ)
+  pub unsealed : input ≡ sealed list ++ all_sealed marks
+  pub listed : IsKept list marks output
 
 -- the words of a merge
 abbrev pub rows_word : Bool → List ℕ

@@ -20,7 +20,6 @@ use cluster_parts::{
     split_for_check, split_for_terms, split_quads,
 };
 use itoa::Buffer;
-use nquads_core::PieceFault;
 use query_plan::{MergePlan, plan};
 use query_split::Split;
 use result_merge::merge;
@@ -69,8 +68,7 @@ fn count_of(alloc: Global, state: RandomState, document: &[u8]) -> Result<u64, P
 {
     match count_statements(alloc, state, document) {
         Ok(count) => Ok(count),
-        Err(PieceFault::BadLine(line)) => Err(PartFault::BadLine(line)),
-        Err(PieceFault::Memory) => Err(PartFault::Memory),
+        Err(fault) => Err(PartFault::of_piece(fault)),
     }
 }
 
@@ -182,8 +180,7 @@ fn split_block_again(
 {
     match split_again(alloc, state, hashes, block, partitions) {
         Ok(out) => Ok(out),
-        Err(PieceFault::BadLine(line)) => Err(PartFault::BadLine(line)),
-        Err(PieceFault::Memory) => Err(PartFault::Memory),
+        Err(fault) => Err(PartFault::of_piece(fault)),
     }
 }
 
@@ -220,8 +217,7 @@ fn split(
 {
     match split_for_check(alloc, state, input, partitions) {
         Ok(out) => Ok(out),
-        Err(PieceFault::BadLine(line)) => Err(PartFault::BadLine(line)),
-        Err(PieceFault::Memory) => Err(PartFault::Memory),
+        Err(fault) => Err(PartFault::of_piece(fault)),
     }
 }
 
@@ -239,8 +235,7 @@ fn split_terms(
 {
     match split_for_terms(alloc, state, input, partitions) {
         Ok(out) => Ok(out),
-        Err(PieceFault::BadLine(line)) => Err(PartFault::BadLine(line)),
-        Err(PieceFault::Memory) => Err(PartFault::Memory),
+        Err(fault) => Err(PartFault::of_piece(fault)),
     }
 }
 
@@ -259,8 +254,7 @@ fn split_by_key(
 {
     match split_quads(alloc, state, input, key, partitions) {
         Ok(out) => Ok(out),
-        Err(PieceFault::BadLine(line)) => Err(PartFault::BadLine(line)),
-        Err(PieceFault::Memory) => Err(PartFault::Memory),
+        Err(fault) => Err(PartFault::of_piece(fault)),
     }
 }
 
@@ -285,11 +279,11 @@ fn firsts(alloc: Global, state: RandomState, input: &[u8]) -> Result<Vec<u8>, Pa
 }
 
 /// Composes the output of `keep`.
-fn kept(alloc: Global, state: RandomState, input: &[u8]) -> Result<Vec<u8>, PartFault>
+fn kept(alloc: Global, input: &[u8]) -> Result<Vec<u8>, PartFault>
     ensures output { IfOk result (λ output. IsKeptOf input.now output.items) }
     ensures no_line { IfErr result (λ fault. (k : ℕ) → fault ≡ BadLine k → ⊥) }
 {
-    match keep_terms(alloc, state, input) {
+    match keep_terms(alloc, input) {
         Ok(out) => Ok(out),
         Err(fault) => Err(PartFault::of_seal(fault)),
     }
@@ -374,7 +368,7 @@ fn merged(alloc: Global, input: &[u8], merging: &Merging) -> Result<Vec<u8>, Par
 /// # Errors
 /// - `BadLine(k)` if line k of the block or of the joined documents, counted from 0, is the first that is malformed.
 /// - `Version` if another version of the program wrote the input.
-/// - `Damaged` if the input was damaged, or a sealed document of terms has a malformed line.
+/// - `Damaged` if the input was damaged, or does not fit together.
 /// - `Query` if a rule rejects the query of `plan`, or it is not UTF-8.
 /// - `Split` if the query of `plan` cannot be evaluated on the parts of the split, or has OFFSET.
 /// - `Memory` if an allocation fails.
@@ -401,7 +395,7 @@ pub fn compose(
         }
         Command::Unseal => unsealed_text(alloc, input),
         Command::First => firsts(alloc, state, input),
-        Command::Keep => kept(alloc, state, input),
+        Command::Keep => kept(alloc, input),
         Command::Plan(split) => planned(alloc, input, split),
         Command::Merge(merging) => merged(alloc, input, merging),
     }

@@ -1,9 +1,10 @@
 //! Why a command was not done.
 ghost use Rattle.std.specs.Prelude.{◌≡◌, ℕ};
+ghost use Rattle.nquads_core.specs.declared.fault.PieceFault.TheVariants as piece;
 ghost use Rattle.part_core.specs.declared.fault.PartFault.TheVariants.{BadLine};
 
 use cluster_parts::SealFault;
-use nquads_core::ReadFault;
+use nquads_core::{PieceFault, ReadFault};
 use query_plan::PlanFault;
 use result_merge::MergeFault;
 
@@ -31,6 +32,16 @@ pub enum PartFault {
 }
 
 impl PartFault {
+    /// Returns the fault of a block or a document, under the same name.
+    pub(crate) fn of_piece(fault: PieceFault) -> PartFault
+        ensures bad_line { (k : ℕ) → result ≡ BadLine k → fault ≡ piece.BadLine k }
+    {
+        match fault {
+            PieceFault::BadLine(line) => PartFault::BadLine(line),
+            PieceFault::Memory => PartFault::Memory,
+        }
+    }
+
     /// Returns the fault of a sealed text, under the same name.
     pub(crate) fn of_seal(fault: SealFault) -> PartFault
         ensures no_line { (k : ℕ) → result ≡ BadLine k → ⊥ }

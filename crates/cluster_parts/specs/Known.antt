@@ -1,0 +1,33 @@
+-- What the loops over lines know. Only private clauses use these definitions.
+use Rattle.std.specs.Prelude.{◌≡◌, ℕ, ◌<◌, List, ◌++◌, length, get_or, map}
+use Rattle.std.specs.Borrow.{Bor}
+use Rattle.indexmap.specs.IndexSet.{IndexSet}
+use Rattle.cluster_parts.specs.Hash.{number_bytes}
+use Rattle.cluster_parts.specs.Seal.{sealed}
+use Rattle.cluster_parts.specs.Parts.{texts_below}
+use Rattle.cluster_parts.specs.Terms.{has_line, line_list, lines_in}
+
+-- borrowed texts
+abbrev pub texts_of : List (Bor (List ℕ)) → List (List ℕ)
+texts_of borrowed = map (λ text. text.now) borrowed
+
+-- the lines of a set
+abbrev pub known_lines : {S : Type 0} → IndexSet (Bor (List ℕ)) S → List (List ℕ)
+known_lines set = texts_of set.keys
+
+-- the set has these lines, and no others
+abbrev pub AreKnown : {S : Type 0} → List (List ℕ) → IndexSet (Bor (List ℕ)) S → Type 0
+AreKnown ls set = (l : List ℕ) → has_line (known_lines set) l ≡ has_line ls l
+
+-- for each partition the number of its lines
+abbrev pub AreTaken : ℕ → List (List ℕ) → List ℕ → Type 0
+AreTaken partitions ls counts = (n : ℕ) → n < partitions → get_or counts n 0 ≡ length (lines_in partitions n ls)
+
+-- the sealed lines of a partition
+abbrev pub lines_part : ℕ → List (List ℕ) → ℕ → List ℕ
+lines_part partitions texts number = sealed (line_list (lines_in partitions number texts))
+
+-- the number of lines, the texts, and those of each partition
+abbrev pub lines_parts : ℕ → ℕ → List (List ℕ) → List ℕ
+lines_parts partitions count texts =
+    sealed (number_bytes count) ++ (sealed (line_list texts) ++ texts_below (lines_part partitions texts) partitions)
