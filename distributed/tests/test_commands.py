@@ -10,8 +10,7 @@ import urllib.request
 from unittest import mock
 
 import testing
-from spq_dask import cluster, counting, selecting
-from testing import ROOT, file, script, spq, spq_dask
+from testing import ROOT, SCRIPT, file, spq, spq_dask
 
 CATALOGUE = os.path.join(ROOT, "docs", "tour", "library.nq")
 PREFIX = "PREFIX dct: <http://purl.org/dc/terms/> PREFIX lib: <http://library.example/terms#> "
@@ -56,7 +55,7 @@ class Catalogue(unittest.TestCase):
                     said = spq(["select", "--query", query], source.read())[1]
             with self.subTest(words=words):
                 self.assertEqual((ran.returncode, ran.stdout), (status, said), ran.stderr)
-                self.assertEqual(re.search(rb"(\d+) of \1 tasks", ran.stderr) is not None, status == 0)
+                self.assertEqual(b"dashboard: http" in ran.stderr, status != 3 and "--quiet" not in words)
                 if "--quiet" in words:
                     self.assertRegex(ran.stderr, rb"^spq-dask: \S*document.nq: line 4\n$")
                 self.assertNotIn(b"Traceback", ran.stderr)
@@ -73,22 +72,16 @@ class Catalogue(unittest.TestCase):
         ran = subprocess.run(["bash"], input=lines, capture_output=True, text=True, cwd=place, env=testing.environment())
         self.assertEqual(ran.stdout.split(mark)[:-1], [shown for _, shown in commands])
 
-    def test_other_package(self):
-        """Workers that have another package of this name run the code of this one."""
-        place = os.path.join(os.path.dirname(file(b"")), "other")
-        os.makedirs(os.path.join(place, "spq_dask"))
-        for name in ["__init__", "program", "counting", "cluster", "selecting"]:
-            with open(os.path.join(place, "spq_dask", name + ".py"), "w") as source:
-                source.write("split = count = look = sealed = None\n")
-        testing.CLIENT.run(lambda: sys.path.insert(0, place))
-        try:
-            with open(CATALOGUE, "rb") as source:
-                text = source.read()
-            for words in [["check"], ["terms"]]:
-                self.assertEqual(spq_dask([*words, "--blocksize", "2KiB"], CATALOGUE)[:2], spq(words, text))
-            self.assertEqual(spq_dask(["check"], file(b"\nx"))[:2], (1, b"error: line 2\n"))
-        finally:
-            testing.CLIENT.run(lambda: sys.path.remove(place))
+    def test_two_versions(self):
+        """Two versions of the script, whose tasks differ, on the same workers."""
+        program = os.path.join(ROOT, "distributed", "spq-dask")
+        with open(program, "rb") as source:
+            text = source.read()
+        other = file(text.replace(b"[int(self.output(", b"[1000 + int(self.output("), "spq-dask")
+        for path, said in [(program, b"ok 64 quads 74 terms 3 graphs\n"), (other, b"ok 64 quads 2074 terms 2003 graphs\n")] * 2:
+            words = ["check", "--quiet", "--scheduler", testing.ADDRESS, "--spq", testing.SPQ, "--spq-part", testing.PART, "--blocksize", "4KiB"]
+            ran = subprocess.run([sys.executable, path, *words, CATALOGUE], stdout=subprocess.PIPE)
+            self.assertEqual((ran.returncode, ran.stdout), (0, said))
 
     def test_dashboard(self):
         link = testing.CLIENT.dashboard_link.removesuffix("/status")
@@ -166,42 +159,23 @@ class Forms(unittest.TestCase):
         commands = [(["check"], []), (["terms"], []), *((["select", "--query", query], ["--split", how]) for how in ["lines", "subject", "graph"])]
         commands.append((["select", "--query", "SELECT * { GRAPH ?g { ?s ?p ?o } ?a ?b ?c }"], ["--split", "graph", "--replicate-default-graph"]))
         commands += [(["select", "--query", f"{query} LIMIT 30"], ["--split", how]) for how in ["lines", "graph"]]
-        with mock.patch.object(counting, "PARTITION", 1 << 23), mock.patch.object(selecting, "PARTITION", 1 << 23):
-            for least, most in [(1, 1_000), (64, 1_000), (64, 3)]:
-                with mock.patch.object(counting, "MOST_PAIRS", most), mock.patch.object(cluster, "LEAST_GROUPS", least), mock.patch.object(cluster, "GROUPS", 1), mock.patch.object(selecting, "AT_ONCE", 2):
-                    for words, options in commands:
-                        with self.subTest(words=words, least=least, most=most):
-                            self.assertEqual(spq_dask([*words, *options, "--blocksize", "100"], file(self.TEXT))[:2], spq(words, self.TEXT))
-                    for words in [["check"], ["terms"]]:
-                        bad = file(self.TEXT), file(self.TEXT[:1000].rpartition(b"\n")[0] + b"\nx\n"), file(self.TEXT)
-                        status, said, told = spq_dask([*words, "--blocksize", "100"], *bad)
-                        whole = b"".join(open(path, "rb").read() for path in bad)
-                        self.assertEqual((status, said), spq(words, whole))
-                        line = open(bad[1], "rb").read().count(b"\n")
-                        self.assertEqual(told, f"spq-dask: {bad[1]}: line {line}\n")
+        for least, most in [(1, 1_000), (64, 1_000), (64, 3)]:
+            few = {"COUNTED": 1 << 23, "EVALUATED": 1 << 23, "MOST_PAIRS": most, "LEAST_GROUPS": least, "GROUPS": 1, "AT_ONCE": 2}
+            with mock.patch.multiple(SCRIPT, **few):
+                for words, options in commands:
+                    with self.subTest(words=words, least=least, most=most):
+                        self.assertEqual(spq_dask([*words, *options, "--blocksize", "100"], file(self.TEXT))[:2], spq(words, self.TEXT))
+                for words in [["check"], ["terms"]]:
+                    bad = file(self.TEXT), file(self.TEXT[:1000].rpartition(b"\n")[0] + b"\nx\n"), file(self.TEXT)
+                    status, said, told = spq_dask([*words, "--blocksize", "100"], *bad)
+                    whole = b"".join(open(path, "rb").read() for path in bad)
+                    self.assertEqual((status, said), spq(words, whole))
+                    line = open(bad[1], "rb").read().count(b"\n")
+                    self.assertEqual(told, f"spq-dask: {bad[1]}: line {line}\n")
 
     def test_no_line_feed(self):
         text = self.TEXT.replace(b"\n", b"\r")
         self.same(text, file(text), sizes=["90", "1MiB"])
-
-    def test_memory(self):
-        """A block that needs too much memory is cut in two."""
-        small = script('t=$(mktemp); cat > $t; if [ $(wc -c < $t) -gt 300 ]; then rm $t; echo "error: memory"; exit 4; fi\n'
-                       '"$SPQ" "$@" < $t; s=$?; rm $t; exit $s')
-        part = script('t=$(mktemp); cat > $t; if [ $1 = split ] && [ $(wc -c < $t) -gt 300 ]; then rm $t; echo "error: memory"; exit 4; fi\n'
-                      '"$PART" "$@" < $t; s=$?; rm $t; exit $s')
-        path = file(self.TEXT)
-        for words in [["check"], ["terms"]]:
-            self.assertEqual(spq_dask([*words, "--blocksize", "1KiB"], path, program=small, part=part)[:2], spq(words, self.TEXT))
-        for split, query in [("lines", "SELECT * { GRAPH ?g { ?s ?p ?o } } LIMIT 5"), ("subject", "SELECT * { GRAPH ?g { ?s ?p ?o } }")]:
-            words = ["select", "--query", query.replace("SELECT", "SELECT DISTINCT")]
-            asked = [*words, "--split", split, "--blocksize", "1KiB"]
-            self.assertEqual(spq_dask(asked, path, program=small)[:2], spq(words, self.TEXT))
-        bad = self.TEXT.splitlines(True)
-        bad[40] = b"x\n"
-        self.assertEqual(spq_dask(["check", "--blocksize", "1KiB"], file(b"".join(bad)), part=part)[:2], (1, b"error: line 41\n"))
-        long = file(b'<a:b> <a:b> "%s" .\n' % (b"x" * 400))
-        self.assertEqual(spq_dask(["check"], long, part=part)[:2], (4, b"error: memory\n"))
 
 
 class Malformed(unittest.TestCase):

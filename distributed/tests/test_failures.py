@@ -8,13 +8,10 @@ import subprocess
 import threading
 import unittest
 from typing import Any
+from unittest import mock
 
 import testing
-from spq_dask.blocks import cut
-from spq_dask.cluster import Run
-from spq_dask.counting import check
-from spq_dask.program import Failed
-from testing import file, script, spq, spq_dask
+from testing import SCRIPT, file, script, spq, spq_dask
 
 TEXT = b"".join(b"<a:s%d> <a:p> _:b%d .\n" % (k % 50, k) for k in range(400))
 
@@ -33,25 +30,30 @@ class Files(unittest.TestCase):
         self.assertEqual((status, said), (5, b"error: input\n"))
         self.assertIn("missing.nq", told)
 
-    def failed(self, change) -> Failed:
-        path = file(TEXT)
-        run, found = Run(testing.CLIENT, True), cut([path], 1000, 3)
-        change(path)
-        with self.assertRaises(Failed) as failed:
-            check(run, found, run.programs(testing.SPQ, testing.PART, 1))
-        self.assertIn(path, failed.exception.reason)
-        self.assertIn(socket.gethostname(), failed.exception.reason)
-        return failed.exception
+    def changed(self, change) -> None:
+        """Changes a file after it is cut into blocks, and before they are read."""
+        path, cut = file(TEXT), SCRIPT.cut
+
+        def cut_and_change(*words):
+            blocks = cut(*words)
+            change(path)
+            return blocks
+
+        with mock.patch.object(SCRIPT, "cut", cut_and_change):
+            status, said, told = spq_dask(["check", "--blocksize", "1000"], path)
+        self.assertEqual((status, said), (5, b"error: input\n"))
+        self.assertIn(path, told)
+        self.assertIn(socket.gethostname(), told)
 
     def test_disappears(self):
-        self.assertEqual(self.failed(os.remove).line, "error: input")
+        self.changed(os.remove)
 
     def test_is_cut_short(self):
-        self.assertEqual(self.failed(lambda path: os.truncate(path, TEXT.index(b"\n", 3000) + 1)).line, "error: input")
+        self.changed(lambda path: os.truncate(path, TEXT.index(b"\n", 3000) + 1))
 
     def test_is_changed(self):
         """The size is the same, but not the time of the last change."""
-        self.assertEqual(self.failed(lambda path: os.utime(path, (1, 1))).line, "error: input")
+        self.changed(lambda path: os.utime(path, (1, 1)))
 
     def test_is_of_no_protocol(self):
         for url in ["nowhere://x/y.nq", "http://127.0.0.1:9/x.nq"]:
@@ -89,7 +91,9 @@ class Queries(unittest.TestCase):
             asked = ["select", "--query", text]
             wanted = spq(asked, b"")
             self.assertEqual(wanted[0], 2)
-            self.assertEqual(spq_dask([*asked, "--split", "lines"], path), (*wanted, ""))
+            status, said, told = spq_dask([*asked, "--split", "lines"], path)
+            self.assertEqual((status, said), wanted)
+            self.assertRegex(told, r"^spq-dask: spq: query, line 1, column \d+: .*\n")
 
     def test_may_not_be_split(self):
         path = file(TEXT)
@@ -101,7 +105,7 @@ class Queries(unittest.TestCase):
         ]:
             status, said, told = spq_dask(["select", "--query", text, *options], path)
             self.assertEqual((status, said), (3, b"error: command line\n"))
-            self.assertIn("does not meet the condition", told)
+            self.assertRegex(told, f"^spq-dask: spq-part: in a query for {options[1]} |^spq-dask: spq-part: a query for lines ")
             self.assertEqual(told.count("\n"), 1)
 
 
@@ -122,30 +126,33 @@ class Programs(unittest.TestCase):
 
     def test_version_changes(self):
         """A program is replaced while a command runs: the tasks after that compare its version, too."""
-        for name, program in [("spq", "SPQ"), ("part", "PART")]:
+        select = ["select", "--split", "subject", "--query", "SELECT * { ?a ?b ?c }"]
+        for name, words in [("spq", select), ("part", ["check"]), ("part", ["terms"]), ("part", select)]:
             mark = file(b"", "mark")
-            changes = f'[ "$1" = --version ] && [ -s {mark} ] && exec echo 9.9.9; case "$1" in split|select) echo >> {mark};; esac; exec "${program}" "$@"'
-            for words in [["check"], ["terms"], ["select", "--split", "subject", "--query", "SELECT * { ?a ?b ?c }"]]:
-                if name == "spq" and words[0] != "select":
-                    continue
-                os.truncate(mark, 0)
-                status, said, told = spq_dask([*words, "--blocksize", "1KiB"], file(TEXT), **{"program" if name == "spq" else name: script(changes)})
-                self.assertEqual((status, said), (4, b"error: worker\n"))
-                self.assertIn("9.9.9", told)
+            changes = script(f'[ "$1" = --version ] && [ -s {mark} ] && exec echo 9.9.9; case "$1" in split|select) echo >> {mark};; esac; exec "${name.upper()}" "$@"')
+            status, said, told = spq_dask([*words, "--blocksize", "1KiB"], file(TEXT), **{"program" if name == "spq" else name: changes})
+            self.assertEqual((status, said), (4, b"error: worker\n"))
+            self.assertIn("9.9.9", told)
 
     def test_part_is_missing(self):
         status, said, told = spq_dask(["check"], file(TEXT), part="/nowhere/spq-part")
         self.assertEqual((status, said), (4, b"error: worker\n"))
-        self.assertIn("/nowhere/spq-part", told)
+        self.assertRegex(told, f"^spq-dask: {socket.gethostname()}: .*/nowhere/spq-part.*\n$")
+        status, said, told = spq_dask(["check", "--debug"], file(TEXT), part="/nowhere/spq-part")
+        self.assertEqual((status, said), (4, b"error: worker\n"))
+        self.assertRegex(told, r"^Traceback (.*\n)+spq-dask: .*\n$")
 
     def test_ends_in_another_way(self):
-        self.assertEqual(spq_dask(["check"], file(TEXT), part=script("exit 77"))[:2], (4, b"error: worker\n"))
-        self.assertEqual(spq_dask(["check"], file(TEXT), part=script("echo 'error: input'; exit 5"))[:2], (5, b"error: input\n"))
-
+        for end, line in [("exit 77", "worker"), ("echo 'error: input'; exit 5", "worker"), ("echo 'error: memory'; exit 4", "memory"), ("kill -9 $$", "memory")]:
+            part = script(f'[ "$1" = --version ] && exec "$PART" "$@"; {end}')
+            status, said, told = spq_dask(["check"], file(TEXT), part=part)
+            self.assertEqual((status, said), (4, f"error: {line}\n".encode()))
+            self.assertIn(socket.gethostname(), told)
+            self.assertEqual(told.count("\n"), 1)
 
     def test_output_is_partial(self):
         """The terms that were printed before a failure are followed by its line."""
-        stops = script('[ "$1" = keep ] || exec "$PART" "$@"; t=$(mktemp); cat > $t; grep -q "_:b399 " $t && exit 77; exec "$PART" "$@" < $t')
+        stops = script('[ "$1" = keep ] || exec "$PART" "$@"; t=$(mktemp); cat > $t; grep -qE "_:b399( |$)" $t && exit 77; exec "$PART" "$@" < $t')
         status, said, told = spq_dask(["terms", "--blocksize", "1KiB"], file(TEXT), part=stops)
         self.assertEqual(status, 4)
         terms, line = said[: -len(b"error: worker\n")], said[-len(b"error: worker\n") :]
@@ -162,7 +169,7 @@ class Output(unittest.TestCase):
         for place in ["&-", "/dev/full"]:
             ran = subprocess.run(["bash", "-c", f'"$@" >{place}', "bash", *words], stderr=subprocess.PIPE)
             self.assertEqual(ran.returncode, 5, ran.stderr)
-            self.assertNotIn(b"Traceback", ran.stderr)
+            self.assertRegex(ran.stderr, rb"^spq-dask: .*\n$")
 
 
 class Scheduler(unittest.TestCase):
@@ -183,7 +190,7 @@ class Scheduler(unittest.TestCase):
         scheduler.kill()
         said, told = ran.communicate(timeout=90)
         self.assertEqual((ran.returncode, said), (4, b"error: worker\n"), told)
-        self.assertEqual(told.count(b"\n"), 1, told)
+        self.assertRegex(told, rf"^spq-dask: .*{address}.*\n$".encode())
 
 
 class Workers(unittest.TestCase):
@@ -195,9 +202,10 @@ class Workers(unittest.TestCase):
             run = threading.Thread(target=lambda: found.append(outcome([*words, "--blocksize", "400"], file(TEXT), program=slow, part=later)))
             before = testing.workers()
             run.start()
-            busy = lambda: [address for address, keys in testing.CLIENT.has_what().items() if keys and address in before]
-            testing.wait_for(busy, 120)
-            os.kill(before[busy()[0]], signal.SIGKILL)
+            busy: list[str] = []  # workers with the result of a block
+            blocks = lambda: [address for address, keys in testing.CLIENT.has_what().items() if any(key.startswith("split") for key in keys)]
+            testing.wait_for(lambda: busy.extend(blocks()) or busy, 120)
+            os.kill(before[busy[0]], signal.SIGKILL)
             run.join(300)
             self.assertEqual(found and found[0][:2], spq(words, TEXT))
             self.assertLess(len(testing.workers()), 3)

@@ -1,16 +1,17 @@
 """A scheduler and workers for the tests, and the two programs that the tests compare."""
 import contextlib
+import importlib.machinery
+import importlib.util
 import io
 import os
 import subprocess
 import sys
 import tempfile
 import time
+from types import ModuleType
 from typing import Iterator, Optional, Sequence
 
 from distributed import Client
-
-from spq_dask.command import run_words
 
 ROOT = os.path.dirname(os.path.dirname(os.path.dirname(os.path.abspath(__file__))))
 SPQ = ""
@@ -19,6 +20,18 @@ CLIENT: Optional[Client] = None
 ADDRESS = ""
 FOLDER = ""
 _processes: list[subprocess.Popen] = []
+
+
+def loaded(path: str) -> ModuleType:
+    """Returns a script as a module that cannot be imported, so that its code is sent to the workers, as that of a script."""
+    loader = importlib.machinery.SourceFileLoader("spq_dask", path)
+    module = importlib.util.module_from_spec(importlib.util.spec_from_loader("spq_dask", loader))
+    sys.modules["spq_dask"] = module
+    loader.exec_module(module)
+    return sys.modules.pop("spq_dask")
+
+
+SCRIPT = loaded(os.path.join(ROOT, "distributed", "spq-dask"))
 
 
 def start(*words: str) -> subprocess.Popen:
@@ -115,7 +128,7 @@ def spq_dask(words: Sequence[str], *files: str, program: Optional[str] = None, p
     out, told = io.BytesIO(), io.StringIO()
     with contextlib.redirect_stderr(told):
         programs = ["--spq", program or SPQ, "--spq-part", part or PART]
-        status = run_words([words[0], "--quiet", *programs, *words[1:], *files], out, CLIENT)
+        status = SCRIPT.run_words([words[0], "--quiet", *programs, *words[1:], *files], out, CLIENT)
     return status, out.getvalue(), told.getvalue()
 
 
