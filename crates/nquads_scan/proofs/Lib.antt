@@ -9,5 +9,6 @@ pub mod LineSteps
 pub mod PieceSteps
 pub mod FormSteps
 pub mod FormLaws
+pub mod StringLaws
 pub mod PlainLaws
 pub mod PlainLineSteps

@@ -6,7 +6,7 @@ use Rattle.std.proofs.lemmas.Bool.{cases_lt, eqb-true}
 use Rattle.rdf_core.proofs.EscapeSteps.{which}
 use Rattle.rdf_core.proofs.EscapeLaws.{and_is, and_parts}
 use Rattle.nquads_core.proofs.RunLaws.{or_parts}
-use Rattle.nquads_scan.specs.Ends.{is_label_byte, is_line_end, is_sought, is_tag_byte, HasNoEnd, HasNoEndIn}
+use Rattle.nquads_scan.specs.Ends.{is_label_byte, is_line_end, is_sought, is_tag_byte, HasNoEnd, HasNoEndIn, IsPassed}
 
 -- the test that a byte is no line end
 abbrev pub no_end : ℕ → Bool
@@ -16,7 +16,7 @@ pub no_end_join : (xs ys : List ℕ) → HasNoEnd xs → HasNoEnd ys → HasNoEn
 no_end_join [] ys h k = k
 no_end_join (x ∷ xs) ys h k = let p = and_parts (no_end x) (list_all no_end xs) h in and_is (no_end x) (list_all no_end (xs ++ ys)) p.0 (no_end_join xs ys p.1 k)
 
-false_true : false ≡ true → ⊥
+pub false_true : false ≡ true → ⊥
 false_true e = cc
 
 -- what passes a test that a line end fails
@@ -67,8 +67,26 @@ kept_label bytes from at h e = kept_more is_label_byte bytes from at refl refl h
 pub kept_tag : (bytes : List ℕ) (from at : ℕ) → HasNoEndIn bytes from at → is_tag_byte (get_or bytes at 0) ≡ true → HasNoEndIn bytes from (at + 1)
 kept_tag bytes from at h e = kept_more is_tag_byte bytes from at refl refl h e
 
-pub kept_unsought : (a b : ℕ) (bytes : List ℕ) (from at : ℕ) → HasNoEndIn bytes from at → is_sought a b (get_or bytes at 0) ≡ false → HasNoEndIn bytes from (at + 1)
-kept_unsought a b bytes from at h e = kept_join bytes from at (at + 1) h (kept_one bytes at (unsought a b (get_or bytes at 0) e))
+-- ---- bytes that a search passes over
+
+module _ (a b : ℕ) (bytes : List ℕ) where
+  pub passed_none : (at : ℕ) → IsPassed a b bytes at at
+  passed_none at = record { each = λ k low high. absurd (omega (arith, low, high)) }
+
+  pub passed_join : (from at to : ℕ) → IsPassed a b bytes from at → IsPassed a b bytes at to → IsPassed a b bytes from to
+  passed_join from at to h g = record { each = λ k low high. elim (cases_lt k at) [ inl l ↦ h.each k low l | inr l ↦ g.each k l high ] }
+
+  pub passed_more : (from at : ℕ) → IsPassed a b bytes from at → is_sought a b (get_or bytes at 0) ≡ false → IsPassed a b bytes from (at + 1)
+  passed_more from at h e =
+      passed_join from at (at + 1) h (record {
+        each = λ k low high.
+            let same : at ≡ k = omega (arith, low, high) in
+            subst (λ (i : ℕ). is_sought a b (get_or bytes i 0) ≡ false) same e;
+      })
+
+  -- nor is one of them a line end
+  pub kept_passed : (from to : ℕ) → IsPassed a b bytes from to → HasNoEndIn bytes from to
+  kept_passed from to h = record { each = λ k low high. unsought a b (get_or bytes k 0) (h.each k low high) }
 
 pub kept_two : (bytes : List ℕ) (at : ℕ) → is_line_end (get_or bytes at 0) ≡ false → is_line_end (get_or bytes (at + 1) 0) ≡ false → HasNoEndIn bytes at (at + 2)
 kept_two bytes at a b =

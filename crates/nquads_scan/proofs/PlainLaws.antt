@@ -1,12 +1,10 @@
 -- A slice without an escape is its own canonical text.
-use Rattle.std.proofs.Common.{◌≡◌, ℕ, zero, suc, ◌+◌, ◌-◌, ◌≤◌, ◌<◌, true, false, List, [], ◌∷◌, ◌++◌, length, take, drop, get_or, slice_range, Some, None, refl, sym, ap, subst, ◌∙◌, arith, inl, inr}
+use Rattle.std.proofs.Common.{◌≡◌, ℕ, suc, ◌-◌, ◌≤◌, ◌<◌, true, false, List, [], ◌∷◌, ◌++◌, length, take, drop, get_or, slice_range, Some, None, refl, sym, ap, subst, ◌∙◌, arith, inl, inr}
 use Rattle.std.specs.List.{flat_map, list_all}
 use Rattle.std.specs.Str.{IsUtf8, bytes_eq, chars}
 use Rattle.std.proofs.Math.Seq.{take-suc, take-length}
 use Rattle.std.proofs.lemmas.Bool.Decides.{nat_tests}
-use Rattle.std.proofs.lemmas.List.{drop_more, get_or-drop, take-append-drop, take_rest}
-use Rattle.std.proofs.lemmas.Bool.{eqb-true}
-use Rattle.memchr.specs.Find.{is_byte, IsFirstByte}
+use Rattle.std.proofs.lemmas.List.{take_rest}
 use Rattle.std.proofs.lemmas.Str.{encodes-chars, scalars-chars}
 use Rattle.rdf_core.specs.declared.term.Term.{Term}
 use Rattle.rdf_core.specs.declared.term.Term.TheVariants.{Blank, Iri, Literal}
@@ -135,23 +133,3 @@ bracketed text bytes inside len same n l e f s u =
     let first : get_or text 0 0 ≡ 60 = sym (ap (λ (y : List ℕ). get_or y 0 0) same) ∙ e in
     let last : get_or text (length text - 1) 0 ≡ 62 = sym (ap (λ (y : List ℕ). get_or y (len - 1) 0) same ∙ ap (λ (k : ℕ). get_or text (k - 1) 0) m) ∙ f in
     record { parts = brackets text (omega (arith, l, m)) first last ∙ ap (λ (y : List ℕ). 60 ∷ (y ++ 62 ∷ [])) (sym (s ∙ ap (λ (k : ℕ). slice_range text 1 (k - 1)) m)); utf8 = u }
-
--- ---- a string at the front of a text
-
-suc_one : (n : ℕ) → suc n + 1 ≡ suc (n + 1)
-suc_one n = omega arith
-
-string_at : (text : List ℕ) (end : ℕ) → 0 < end → end < length text → get_or text 0 0 ≡ 34 → get_or text end 0 ≡ 34 → text ≡ 34 ∷ (slice_range text 1 end ++ 34 ∷ drop (end + 1) text)
-string_at [] end p l e f = absurd (omega (arith, l))
-string_at (b ∷ text) zero p l e f = absurd (omega (arith, p))
-string_at (b ∷ text) (suc end) p l e f =
-    let middle : slice_range (b ∷ text) 1 (suc end) ≡ take end text = ap (λ (k : ℕ). take k text) (omega arith) in
-    let after : drop (suc end + 1) (b ∷ text) ≡ drop (end + 1) text = ap (λ (k : ℕ). drop k (b ∷ text)) (suc_one end) in
-    let split : text ≡ take end text ++ 34 ∷ drop (end + 1) text =
-    sym (take-append-drop end text) ∙ ap (λ (y : List ℕ). take end text ++ y) (drop_more text end 0 (omega (arith, l)) ∙ ap (λ (y : ℕ). y ∷ drop (end + 1) text) f) in
-    ap (λ (y : ℕ). y ∷ text) e ∙ ap (λ (y : List ℕ). 34 ∷ y) (split ∙ ap (λ (y : List ℕ). y ++ 34 ∷ drop (end + 1) text) (sym middle) ∙ ap (λ (y : List ℕ). slice_range (b ∷ text) 1 (suc end) ++ 34 ∷ y) (sym after))
-
--- a byte at k, counted from the place from
-pub byte_at : (b : ℕ) (text bytes : List ℕ) (from k : ℕ) → bytes ≡ text → IsFirstByte (is_byte b) (take (length bytes - from) (drop from bytes)) (Some k) → get_or text (from + k) 0 ≡ b
-byte_at b text bytes from k same h =
-    sym (ap (λ (y : List ℕ). get_or y (from + k) 0) same) ∙ sym (get_or-drop from bytes k 0) ∙ sym (ap (λ (y : List ℕ). get_or y k 0) (take_rest bytes from)) ∙ eqb-true _ b h.1

@@ -1,5 +1,5 @@
 -- The bytes at which a search stops, 32 at a time.
-use Rattle.std.proofs.Common.{◌≡◌, ℕ, ◌+◌, ◌%◌, ◌^◌, ◌<◌, ◌≤◌, Bool, true, false, cond, eqb, List, [], ◌∷◌, map, length, get_or, replicate, refl, sym, ap, ap₂, subst, ◌∙◌, arith}
+use Rattle.std.proofs.Common.{◌≡◌, ℕ, ◌+◌, ◌%◌, ◌^◌, ◌<◌, ◌≤◌, Bool, true, false, cond, eqb, List, [], ◌∷◌, map, length, replicate, refl, sym, ap, ap₂, subst, ◌∙◌, arith}
 use Rattle.std.specs.Prelude.{◌||◌, not}
 use Rattle.std.specs.List.{prefix_len}
 use Rattle.std.proofs.lemmas.List.{length-map}
@@ -7,8 +7,8 @@ use Rattle.std.proofs.lemmas.Simd.{zip2_splat, length-chunk, mask_l-mod, none_fr
 use lib.Bits.{bit_or}
 use lib.Count.{count_trailing_zeros}
 use lib.Lanes.{zip2, mask_l, top, chunk}
-use Rattle.nquads_scan.specs.Ends.{is_sought, HasNoEndIn}
-use Rattle.nquads_scan.proofs.NoEnds.{kept_join, unsought}
+use Rattle.nquads_scan.specs.Ends.{is_sought, IsPassed}
+use Rattle.nquads_scan.proofs.NoEnds.{passed_join}
 
 -- the lane of a comparison
 abbrev hit : ℕ → ℕ → ℕ
@@ -54,19 +54,19 @@ marks_are a b v z long z_is =
     (either (λ x. hit x 10) (λ x. hit x 13) v (zip2_splat hit v 32 10 long) (zip2_splat hit v 32 13 long)) in
     ap (λ l. mask_l l % 2 ^ 64) (ap (map (top 7)) lanes ∙ each_lane a b v) ∙ mask_l-mod (map (is_sought a b) v) 64 (omega (arith, length-map v (is_sought a b), long))
 
-module _ (a b : ℕ) (bytes : List ℕ) (from at found : ℕ) (was : HasNoEndIn bytes from at) (room : at + 32 ≤ length bytes) (found_is : found ≡ mask_l (map (is_sought a b) (chunk at 32 bytes))) where
+module _ (a b : ℕ) (bytes : List ℕ) (from at found : ℕ) (was : IsPassed a b bytes from at) (room : at + 32 ≤ length bytes) (found_is : found ≡ mask_l (map (is_sought a b) (chunk at 32 bytes))) where
   -- no bit is set
-  pub passed_over : found ≡ 0 → HasNoEndIn bytes from (at + 32)
+  pub passed_over : found ≡ 0 → IsPassed a b bytes from (at + 32)
   passed_over none =
-      kept_join bytes from at (at + 32) was
-      (record { each = λ k low high. unsought a b (get_or bytes k 0) (none_from_empty_mask (is_sought a b) bytes at 32 0 room (sym found_is ∙ none) k low high) })
+      passed_join a b bytes from at (at + 32) was
+      (record { each = λ k low high. none_from_empty_mask (is_sought a b) bytes at 32 0 room (sym found_is ∙ none) k low high })
 
   -- up to the lowest bit that is set
-  pub stopped_at : 0 < found → HasNoEndIn bytes from (at + count_trailing_zeros 64 found)
+  pub stopped_at : 0 < found → IsPassed a b bytes from (at + count_trailing_zeros 64 found)
   stopped_at some =
       let p = is_sought a b in
       let here = chunk at 32 bytes in
       let counted : count_trailing_zeros 64 found ≡ prefix_len (λ x. not (p x)) here =
       ap (count_trailing_zeros 64) found_is ∙ trailing_mask_l p 64 here (omega (arith, length-chunk at 32 bytes room)) (subst (λ (n : ℕ). 0 < n) found_is some) in
-      kept_join bytes from at (at + count_trailing_zeros 64 found) was
-      (record { each = λ k low high. unsought a b (get_or bytes k 0) (run_in_chunk_fails p bytes at 32 (count_trailing_zeros 64 found) 0 room counted k low high) })
+      passed_join a b bytes from at (at + count_trailing_zeros 64 found) was
+      (record { each = λ k low high. run_in_chunk_fails p bytes at 32 (count_trailing_zeros 64 found) 0 room counted k low high })

@@ -22,6 +22,10 @@ pub record HasNoEndIn (bytes : List ℕ) (from to : ℕ) : Type 0 where
 abbrev pub is_sought : ℕ → ℕ → ℕ → Bool
 is_sought a b c = (c == a || c == b) || is_line_end c
 
+-- a search for these two stops at no byte from one place up to another
+pub record IsPassed (a b : ℕ) (bytes : List ℕ) (from to : ℕ) : Type 0 where
+  pub each : (k : ℕ) → from ≤ k → k < to → is_sought a b (get_or bytes k 0) ≡ false
+
 -- a byte that a label or the dots after it may have; each byte of a character above 127 is taken for one
 abbrev pub is_label_byte : ℕ → Bool
 is_label_byte b = nat_le 128 b || is_ascii_alphanumeric b || b == 95 || b == 58 || b == 45 || b == 46

@@ -4,12 +4,12 @@
 
 ghost use Rattle.std.specs.Prelude.{◌≡◌, true, not, IfSome};
 ghost use Rattle.std.specs.List.{list_all};
-ghost use Rattle.rdf_core.specs.Characters.{is_iri_char, is_string_char};
+ghost use Rattle.rdf_core.specs.Characters.{is_iri_char};
 ghost use Rattle.nquads_scan.specs.Canonical.{HasForm};
 ghost use Rattle.nquads_scan.specs.Plain.{is_plain_iri, IsBracketed, IsLabelled, IsPlainString, IsPlainSuffix};
 
 use crate::checks::{is_label, is_lower_tag};
-use memchr::memchr;
+use crate::search::search;
 use rdf_core::lexical::has_scheme;
 use rdf_core::vocabulary::XSD_STRING;
 
@@ -43,26 +43,6 @@ fn are_iri_bytes(bytes: &[u8]) -> bool
     !ends
 }
 
-/// Returns whether this byte may not occur unescaped in a string.
-#[inline(always)]
-fn ends_string(b: u8) -> bool
-    ensures { is_string_char b ≡ not result }
-{
-    (b == b'"') | (b == b'\\') | (b == b'\n') | (b == b'\r')
-}
-
-/// Returns whether all these bytes may occur unescaped in a string, without an early exit either.
-#[inline(always)]
-fn are_string_bytes(bytes: &[u8]) -> bool
-    ensures { result ≡ list_all is_string_char bytes.now }
-{
-    let mut ends = false;
-    for b in bytes {
-        ends = ends | ends_string(*b);
-    }
-    !ends
-}
-
 /// Returns whether this is an IRI with a scheme, written without an escape.
 pub fn is_plain_iri(inside: &str) -> bool
     ensures { result ≡ is_plain_iri inside.now }
@@ -90,8 +70,8 @@ fn cut_string(text: &str) -> Option<(&str, &str)>
     if bytes.is_empty() || bytes[0] != b'"' {
         return None;
     }
-    let end = 1 + memchr(b'"', &bytes[1..])?;
-    if !are_string_bytes(&bytes[1..end]) {
+    let end = search(bytes, 1, b'"', b'\\');
+    if end >= bytes.len() || bytes[end] != b'"' {
         return None;
     }
     Some((&text[1..end], &text[end + 1..]))

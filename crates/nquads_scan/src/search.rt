@@ -2,11 +2,11 @@
 //! goes on after one.
 //!
 //! A call of `memchr` costs more than the search itself if the byte is some ten bytes away. Who calls a search here looks
-//! at the byte that was found, so no clause says that it is the first one.
+//! at the byte that was found.
 
 ghost use Rattle.std.specs.Prelude.{◌≡◌, ◌≤◌, length, map};
 ghost use Rattle.std.specs.Simd.Lanes.{mask_l};
-ghost use Rattle.nquads_scan.specs.Ends.{is_line_end, is_sought, HasNoEndIn};
+ghost use Rattle.nquads_scan.specs.Ends.{is_line_end, is_sought, HasNoEndIn, IsPassed};
 
 use std::simd::prelude::*;
 
@@ -43,7 +43,7 @@ fn marks(lanes: u8x32, a: u8, b: u8) -> u64
 fn search_singly(bytes: &[u8], from: usize, a: u8, b: u8) -> usize
     requires { from ≤ length bytes.now }
     ensures low { from ≤ result }
-    ensures kept { HasNoEndIn bytes.now from result }
+    ensures passed { IsPassed a b bytes.now from result }
 {
     let mut at = from;
     while at < bytes.len() && !is_sought(a, b, bytes[at]) {
@@ -57,6 +57,7 @@ fn search_singly(bytes: &[u8], from: usize, a: u8, b: u8) -> usize
 pub fn search(bytes: &[u8], from: usize, a: u8, b: u8) -> usize
     requires { from ≤ length bytes.now }
     ensures low { from ≤ result }
+    ensures passed { IsPassed a b bytes.now from result }
     ensures kept { HasNoEndIn bytes.now from result }
 {
     let mut at = from;
