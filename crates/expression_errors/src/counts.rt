@@ -130,6 +130,8 @@ impl PartCounter {
         }
     }
 
+    /// Counts rows with a cause that has a datatype. Workers that are the first to meet a cause at the same time
+    /// may take a counter each.
     fn add_datatype(&self, alloc: Global, cause: &Cause, rows: u64) {
         for counter in &self.datatypes {
             if counter.add(alloc, cause, rows) {
@@ -137,6 +139,32 @@ impl PartCounter {
             }
         }
     }
+
+    /// Returns the rows of all counters of a cause that has a datatype.
+    fn datatype_rows(&self, cause: &Cause) -> u64 {
+        let mut rows: u64 = 0;
+        for counter in &self.datatypes {
+            if counter.cause.get() == Some(cause) {
+                rows = rows.saturating_add(loaded(&counter.rows));
+            }
+        }
+        rows
+    }
+
+    /// Returns whether one of the first counters has this cause.
+    fn is_among_first(&self, count: usize, cause: &Cause) -> bool {
+        for counter in self.datatypes.iter().take(count) {
+            if counter.cause.get() == Some(cause) {
+                return true;
+            }
+        }
+        false
+    }
+}
+
+/// Returns a count.
+fn loaded(rows: &AtomicU64) -> u64 {
+    rows.load(Ordering::SeqCst)
 }
 
 /// The counts of the equal expressions of a plan.
@@ -322,14 +350,31 @@ fn push_part(tallies: &mut Vec<Tally>, alloc: Global, part: Part<'_>) -> Result<
     ensures counted { OnOk result (All (λ tally. 0 < tally.rows) tallies.new.items) }
 {
     let counts = part.counts;
-    push_count(tallies, part, counts.unbound_cause(), &counts.unbound)?;
-    push_count(tallies, part, Cause::Call, &counts.calls)?;
-    push_count(tallies, part, Cause::NotLiteral, &counts.not_literals)?;
-    push_count(tallies, part, Cause::Tagged, &counts.tagged)?;
-    push_count(tallies, part, Cause::Kinds, &counts.kinds)?;
-    for counter in &counts.datatypes {
+    push_count(
+        tallies,
+        part,
+        counts.unbound_cause(),
+        loaded(&counts.unbound),
+    )?;
+    push_count(tallies, part, Cause::Call, loaded(&counts.calls))?;
+    push_count(
+        tallies,
+        part,
+        Cause::NotLiteral,
+        loaded(&counts.not_literals),
+    )?;
+    push_count(tallies, part, Cause::Tagged, loaded(&counts.tagged))?;
+    push_count(tallies, part, Cause::Kinds, loaded(&counts.kinds))?;
+    for (place, counter) in counts.datatypes.iter().enumerate() {
         if let Some(cause) = counter.cause.get() {
-            push_count(tallies, part, cause.copy(alloc)?, &counter.rows)?;
+            if !counts.is_among_first(place, cause) {
+                push_count(
+                    tallies,
+                    part,
+                    cause.copy(alloc)?,
+                    counts.datatype_rows(cause),
+                )?;
+            }
         }
     }
     Ok(())
@@ -340,12 +385,11 @@ fn push_count(
     tallies: &mut Vec<Tally>,
     part: Part<'_>,
     cause: Cause,
-    rows: &AtomicU64,
+    rows: u64,
 ) -> Result<(), AllocError>
     requires counted { All (λ tally. 0 < tally.rows) tallies.old.items }
     ensures counted { OnOk result (All (λ tally. 0 < tally.rows) tallies.new.items) }
 {
-    let rows = rows.load(Ordering::SeqCst);
     if rows > 0 {
         tallies.push(Tally {
             expressions: part.of.expressions.clone()?,

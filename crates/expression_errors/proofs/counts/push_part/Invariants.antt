@@ -1,5 +1,5 @@
 use Rattle.std.proofs.Common.{◌<◌, All}
 use Rattle.expression_errors.proofs.counts.push_part.Given as goal
 
-abbrev pub invariant-loop-counter : goal.invariant-loop-counter
-invariant-loop-counter l = All (λ tally. 0 < tally.rows) l.tallies.items
+abbrev pub invariant-loop-place : goal.invariant-loop-place
+invariant-loop-place l = All (λ tally. 0 < tally.rows) l.tallies.items
