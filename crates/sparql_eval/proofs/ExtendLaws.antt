@@ -1,13 +1,13 @@
 -- Each solution has the width of the plan. So under GRAPH with a variable, Extend may be applied
 -- after the solutions of the graphs are joined with the names of the graphs, if it does not mention or
 -- bind the variable.
-use Rattle.std.proofs.Common.{◌≡◌, ◌≢◌, ℕ, zero, suc, ◌+◌, ◌<◌, ◌≤◌, Bool, true, false, cond, ◌&&◌, List, [], ◌∷◌, ◌++◌, get_or, length, map, filter, flat_map, set, replicate, take, Option, None, Some, nat_eq, if◌then◌else◌, refl, sym, ap, ◌∙◌, arith}
+use Rattle.std.proofs.Common.{◌≡◌, ◌≢◌, ℕ, zero, suc, ◌+◌, Bool, true, false, cond, ◌&&◌, List, [], ◌∷◌, ◌++◌, length, map, filter, flat_map, set, replicate, take, Option, None, Some, if◌then◌else◌, refl, sym, ap, ◌∙◌, arith}
 use Rattle.std.specs.List.{list_any}
 use Rattle.std.proofs.lemmas.List.{length-replicate, length-set, length-take-le, map-append}
 use Rattle.rdf_core.specs.declared.term.Term.{Term}
 use Rattle.rdf_core.specs.QuadParts.{QuadParts}
 use Rattle.rdf_core.proofs.TermLaws.{term_eq}
-use Rattle.algebra_model.specs.Algebra.{Algebra, Pattern, Join, LeftJoin, Union, Minus, Graph, Filter, Extend, Project, Distinct, Table, GraphName, each_graph, one_graph}
+use Rattle.algebra_model.specs.Algebra.{Algebra, Pattern, Join, LeftJoin, Union, Minus, Graph, Filter, Extend, Project, Distinct, Table, each_graph, one_graph}
 use Rattle.algebra_model.specs.Bgp.{Triple, TriplePattern, bgp, every_map, is_in, occurs, terms}
 use Rattle.algebra_model.specs.Dataset.{graph, names}
 use Rattle.algebra_model.specs.Eval.{eval, named}

@@ -1,14 +1,15 @@
 -- The variables that the parts of an expression mention.
-use Rattle.std.proofs.Common.{◌≡◌, ℕ, zero, suc, Bool, true, false, ◌||◌, List, [], ◌∷◌, map, slice_get, Option, None, Some, Box, Global, refl, sym, ap, ◌∙◌}
+use Rattle.std.proofs.Common.{◌≡◌, ℕ, zero, suc, Bool, true, false, ◌||◌, List, [], ◌∷◌, map, slice_get, Some, Box, Vec, Global, refl, sym, ap, ◌∙◌}
 use Rattle.std.specs.List.{list_any}
 use Rattle.rdf_core.specs.declared.term.Term.{Term}
-use Rattle.algebra_model.specs.Expression.{Expression, constant, negation, call, bound}
+use Rattle.algebra_model.specs.Expression.{Expression, constant, negation, member, call, bound}
 use Rattle.expression_values.specs.ExpressionOf.{expression_of, expression_step, function_of}
 use Rattle.expression_values.specs.declared.expression.Expr.{Expr}
 use Rattle.expression_values.specs.declared.expression.Expr.TheFolds.{fold-roll-Expr}
 use Rattle.expression_values.specs.declared.expression.Expr.TheOpen.{Expr-F}
 use Rattle.expression_values.specs.declared.expression.Expr.TheVariants as variants
 use Rattle.expression_values.specs.declared.expression.Expr.TheViews as views
+use Rattle.sparql_eval.specs.Mentions.{mentions}
 use Rattle.sparql_eval.proofs.UnboundLaws.{neither}
 
 -- the two operands do not mention what the whole does not mention
@@ -30,6 +31,24 @@ bound_denotes v = ap expression_of (sym (variants.rolls-Bound v)) ∙ fold-roll-
 
 pub constant_denotes : (t : Term) → expression_of (variants.Constant t) ≡ constant t
 constant_denotes t = ap expression_of (sym (variants.rolls-Constant t)) ∙ fold-roll-Expr Expression expression_step (Expr-F.Constant t)
+
+pub in_denotes : (item : Box Expr Global) (list : Vec Expr Global) → expression_of (views.In item list) ≡ member (expression_of item.value) (map expression_of list.items)
+in_denotes item list = ap expression_of (sym (variants.rolls-In item list)) ∙ fold-roll-Expr Expression expression_step (Expr-F.In item list)
+
+-- ---- IN
+
+member_mentions : (x : Expression) (es : List Expression) (v : ℕ) → mentions x v ≡ false → list_any (λ e. mentions e v) es ≡ false → mentions (member x es) v ≡ false
+member_mentions x [] v h k = refl
+member_mentions x (e ∷ es) v h k =
+    let p = neither (mentions e v) (list_any (λ e. mentions e v) es) k in
+    λ i. (h i || p.0 i) || member_mentions x es v h p.1 i
+
+-- neither the item nor the list mentions what the whole does not mention
+pub in_mentions : (item : Box Expr Global) (list : Vec Expr Global) (v : ℕ) (l r result : Bool) → result ≡ (l || r) → (l ≡ false → mentions (expression_of item.value) v ≡ false)
+    → (r ≡ false → list_any (λ e. mentions e v) (map expression_of list.items) ≡ false) → result ≡ false → mentions (expression_of (views.In item list)) v ≡ false
+in_mentions item list v l r result made h k none =
+    let p = neither l r (sym made ∙ none) in
+    ap (λ (e : Expression). mentions e v) (in_denotes item list) ∙ member_mentions (expression_of item.value) (map expression_of list.items) v (h p.0) (k p.1)
 
 -- ---- the places of triple patterns
 

@@ -1,5 +1,5 @@
 -- Operators that are applied to the rows of all graphs of a GRAPH with a variable.
-use Rattle.std.proofs.Common.{◌≡◌, ◌⊎◌, ℕ, zero, suc, ◌<◌, Bool, true, false, cond, not, ◌&&◌, List, [], ◌∷◌, ◌++◌, get_or, length, map, filter, flat_map, replicate, set, slice_get, nat_eq, Contains, Option, None, Some, Result, IfOk, inl, inr, ⊎_elim, refl, sym, ap, ◌∙◌, subst, arith}
+use Rattle.std.proofs.Common.{◌≡◌, ◌⊎◌, ℕ, zero, suc, ◌<◌, Bool, true, false, cond, not, ◌&&◌, List, [], ◌∷◌, ◌++◌, get_or, length, map, filter, flat_map, replicate, set, slice_get, nat_eq, Contains, Option, None, Some, Result, IfOk, inl, inr, ⊎_elim, refl, sym, ◌∙◌, subst, arith}
 use Rattle.std.proofs.lemmas.Bool.{false≢true}
 use Rattle.std.proofs.lemmas.List.{map-append}
 use Rattle.std.proofs.lemmas.List.Elements.{Contains-append_cases}
@@ -13,7 +13,7 @@ use Rattle.algebra_model.specs.Closed.{is_closed}
 use Rattle.algebra_model.specs.Dataset.{names}
 use Rattle.algebra_model.specs.Expression.{Expression, holds, val}
 use Rattle.algebra_model.specs.Eval.{eval, named}
-use Rattle.algebra_model.specs.Operators.{extend, join, left_join, merges, minus}
+use Rattle.algebra_model.specs.Operators.{extend, join, left_join, minus}
 use Rattle.algebra_model.specs.Solution.{Solution, is_compatible, merge}
 use Rattle.algebra_model.proofs.CongruenceLaws.{filter-IsSameBag}
 use Rattle.dict_core.specs.Dict.{IsGrown, term_at}
@@ -30,7 +30,7 @@ use Rattle.sparql_eval.specs.TreeSolutions.{AreGraphs, NeededIn, solutions_in, t
 use Rattle.sparql_eval.specs.declared.equalities.Equality.{Equality}
 use Rattle.sparql_eval.proofs.ClosedSteps.{as_bag, joined_in, joined_left}
 use Rattle.sparql_eval.proofs.ComputedSteps.{takes_two}
-use Rattle.sparql_eval.proofs.EvaluateSteps.{after_left, after_one, as_whole, index_kept, tree_kept, left_join_keeps, minus_keeps, union_keeps, filter_keeps, extend_keeps}
+use Rattle.sparql_eval.proofs.EvaluateSteps.{after_left, after_one, as_whole, index_kept, tree_kept, left_join_keeps, minus_keeps, union_keeps, extend_keeps}
 use Rattle.sparql_eval.proofs.ExtendLaws.{extend_in}
 use Rattle.sparql_eval.proofs.FittingSteps.{where_all, where_filtered, where_joined, where_whole}
 use Rattle.sparql_eval.proofs.OutwardLaws.{filter_in, left_join_in, merged_elsewhere, minus_in, union_in, val_elsewhere}

@@ -1,5 +1,5 @@
 -- No solution binds a variable that the tree may not bind.
-use Rattle.std.proofs.Common.{◌≡◌, ◌≢◌, ℕ, zero, suc, ◌+◌, Bool, true, false, cond, ◌||◌, List, [], ◌∷◌, ◌++◌, get_or, map, filter, flat_map, set, replicate, take, Option, None, Some, nat_eq, if◌then◌else◌, refl, sym, ap, ◌∙◌, arith}
+use Rattle.std.proofs.Common.{◌≡◌, ◌≢◌, ℕ, zero, suc, ◌+◌, Bool, true, false, ◌||◌, List, [], ◌∷◌, get_or, map, filter, set, replicate, take, Option, None, Some, nat_eq, if◌then◌else◌, refl, sym, ap, ◌∙◌}
 use Rattle.std.specs.List.{list_any}
 use Rattle.std.proofs.lemmas.Bool.{false≢true}
 use Rattle.std.proofs.lemmas.Bool.Decides.{Decides-eqb}
@@ -7,16 +7,16 @@ use Rattle.std.proofs.lemmas.List.{get_or-set_other}
 use Rattle.rdf_core.specs.declared.term.Term.{Term}
 use Rattle.rdf_core.specs.QuadParts.{QuadParts}
 use Rattle.rdf_core.proofs.TermLaws.{term_eq}
-use Rattle.algebra_model.specs.Algebra.{Algebra, Pattern, Join, LeftJoin, Union, Minus, Graph, Filter, Extend, Project, Distinct, Table, GraphName, each_graph, one_graph}
+use Rattle.algebra_model.specs.Algebra.{Algebra, Pattern, Join, LeftJoin, Union, Minus, Graph, Filter, Extend, Project, Distinct, Table, each_graph, one_graph}
 use Rattle.algebra_model.specs.Bgp.{Triple, TriplePattern, bgp, every_map, is_in, occurs, terms}
 use Rattle.algebra_model.specs.Dataset.{graph, names}
-use Rattle.algebra_model.specs.Eval.{eval, in_graphs, named}
-use Rattle.algebra_model.specs.Expression.{Expression, holds, val}
-use Rattle.algebra_model.specs.Operators.{bind, join, left_join, merges, minus, restrict, share, table_row}
+use Rattle.algebra_model.specs.Eval.{eval, named}
+use Rattle.algebra_model.specs.Expression.{holds, val}
+use Rattle.algebra_model.specs.Operators.{bind, join, merges, restrict, table_row}
 use Rattle.algebra_model.specs.Renaming.{Each}
 use Rattle.algebra_model.specs.Solution.{Solution, bound_or, is_compatible, merge, same_solution}
 use Rattle.algebra_model.proofs.RangeLaws.{Each-append, Each-filter, Each-flat_map, Each-map, Each-without_repeats}
-use Rattle.sparql_eval.specs.Mentions.{may_bind, names_by}
+use Rattle.sparql_eval.specs.Mentions.{may_bind}
 use Rattle.sparql_eval.proofs.KeySteps.{get-merge}
 
 pub neither : (a b : Bool) → (a || b) ≡ false → (a ≡ false) × (b ≡ false)

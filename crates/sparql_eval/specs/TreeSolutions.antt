@@ -3,7 +3,7 @@
 use Rattle.std.specs.Prelude.{◌≡◌, ℕ, ◌<◌, List, Option, Some, Contains, length, map, flat_map, slice_get}
 use Rattle.std.specs.Option.{option_map}
 use Rattle.rdf_core.specs.declared.term.Term.{Term}
-use Rattle.algebra_model.specs.Algebra.{Algebra, GraphName}
+use Rattle.algebra_model.specs.Algebra.{Algebra, GraphName, each_graph}
 use Rattle.rdf_core.specs.Equality.{term_eq}
 use Rattle.algebra_model.specs.Dataset.{names}
 use Rattle.algebra_model.specs.Eval.{eval, in_graphs, named}
@@ -12,9 +12,11 @@ use Rattle.algebra_model.specs.Solution.{Solution}
 use Rattle.dict_core.specs.Dict.{term_at}
 use Rattle.dict_core.specs.NumQuad.{quads_at}
 use Rattle.dict_core.specs.declared.num_quad.NumQuad.{NumQuad}
+use Rattle.row_core.specs.RowList.{RowList}
 use Rattle.sparql_algebra.specs.AlgebraOf.{algebra_of}
 use Rattle.sparql_algebra.specs.declared.operator.Operator.{Operator}
-use Rattle.sparql_eval.specs.Computed.{InSomeGraph, IsComputed}
+use Rattle.sparql_eval.specs.Computed.{InSomeGraph, IsComputed, TakesOnly}
+use Rattle.sparql_eval.specs.Evaluated.{IsEvaluated}
 
 -- with the graph of that number active
 abbrev pub tree_solutions : List Term → List NumQuad → ℕ → Option ℕ → Operator → List (Solution Term)
@@ -40,3 +42,11 @@ AreGraphs terms index graphs = (k n : ℕ) → slice_get graphs k ≡ Some n →
 abbrev pub solutions_in : List Term → List NumQuad → ℕ → ℕ → List ℕ → Algebra → List (Solution Term)
 solutions_in terms index w v graphs A =
     flat_map (λ i. join term_eq (eval w (quads_at terms index) (Some i) A) (named w v i)) (map (term_at terms) graphs)
+
+-- the result of a tree in the graphs of these numbers
+abbrev pub IsEvaluatedIn : List Term → List NumQuad → ℕ → ℕ → List ℕ → Algebra → RowList → List Term → Type 0
+IsEvaluatedIn terms index w v graphs A made terms' = IsEvaluated terms w (solutions_in terms index w v graphs A) made terms'
+
+-- the terms that are added to the dictionary are computed in named graphs
+abbrev pub TakesIn : List Term → List NumQuad → ℕ → ℕ → Algebra → List Term → Type 0
+TakesIn terms index w v A terms' = TakesOnly (NeededIn terms index w (each_graph v) A) terms terms'

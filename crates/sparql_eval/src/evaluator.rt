@@ -20,7 +20,7 @@ ghost use Rattle.sparql_eval.specs.Evaluated.{AreKnown, IsEvaluated, solutions_o
 ghost use Rattle.sparql_eval.specs.Fitting.{IsEvaluatedWhere, fits};
 ghost use Rattle.sparql_eval.specs.Mentions.{mentions};
 ghost use Rattle.sparql_eval.specs.Possible.{ArePossibleIn, may_join, meets_some};
-ghost use Rattle.sparql_eval.specs.TreeSolutions.{AreGraphs, Needed, NeededIn, graph_solutions, solutions_in, tree_solutions};
+ghost use Rattle.sparql_eval.specs.TreeSolutions.{AreGraphs, IsEvaluatedIn, Needed, NeededIn, TakesIn, graph_solutions, solutions_in, tree_solutions};
 
 use crate::closed::{is_apart, is_closed};
 use crate::distinctness::distinct;
@@ -522,9 +522,8 @@ impl<'c, 'i, 'e, R: Threads + Wait, G: Gate + Sync> Evaluator<'c, 'i, 'e, R, G> 
             (meets_some term_eq (solutions_of dict others.now))
             (graph_solutions dict self.now.index.now self.now.width (each_graph variable)
             inner.now) r.0 r.1) }
-        ensures needed { IfOk result (λ r. TakesOnly
-            (NeededIn dict self.now.index.now self.now.width (each_graph variable)
-            (algebra_of inner.now)) dict r.1) }
+        ensures needed { IfOk result (λ r. TakesIn dict self.now.index.now
+            self.now.width variable (algebra_of inner.now) r.1) }
         ensures one_worker { HasOneWorker self.now.context.how.now → IfErr result (λ fault. fault ≡ Memory) }
     {
         let _distinct = dict.len();
@@ -656,9 +655,8 @@ impl<'c, 'i, 'e, R: Threads + Wait, G: Gate + Sync> Evaluator<'c, 'i, 'e, R, G> 
         ensures evaluated { IfOk result (λ r. IsEvaluated dict self.now.width
             (graph_solutions dict self.now.index.now self.now.width (each_graph variable)
             inner.now) r.0 r.1) }
-        ensures needed { IfOk result (λ r. TakesOnly
-            (NeededIn dict self.now.index.now self.now.width (each_graph variable)
-            (algebra_of inner.now)) dict r.1) }
+        ensures needed { IfOk result (λ r. TakesIn dict self.now.index.now
+            self.now.width variable (algebra_of inner.now) r.1) }
         ensures one_worker { HasOneWorker self.now.context.how.now → IfErr result (λ fault. fault ≡ Memory) }
     {
         let _distinct = dict.len();
@@ -680,12 +678,10 @@ impl<'c, 'i, 'e, R: Threads + Wait, G: Gate + Sync> Evaluator<'c, 'i, 'e, R, G> 
         requires variable { variable < self.now.width }
         requires graphs { AreGraphs dict self.now.index.now graphs.now }
         requires within { is_within self.now.width (algebra_of inner.now) ≡ true }
-        ensures evaluated { IfOk result (λ r. IsEvaluated dict self.now.width
-            (solutions_in dict self.now.index.now self.now.width variable graphs.now
-            (algebra_of inner.now)) r.0 r.1) }
-        ensures needed { IfOk result (λ r. TakesOnly
-            (NeededIn dict self.now.index.now self.now.width (each_graph variable)
-            (algebra_of inner.now)) dict r.1) }
+        ensures evaluated { IfOk result (λ r. IsEvaluatedIn dict self.now.index.now
+            self.now.width variable graphs.now (algebra_of inner.now) r.0 r.1) }
+        ensures needed { IfOk result (λ r. TakesIn dict self.now.index.now
+            self.now.width variable (algebra_of inner.now) r.1) }
         ensures one_worker { HasOneWorker self.now.context.how.now → IfErr result (λ fault. fault ≡ Memory) }
     {
         if graphs.is_empty() {
@@ -723,12 +719,10 @@ impl<'c, 'i, 'e, R: Threads + Wait, G: Gate + Sync> Evaluator<'c, 'i, 'e, R, G> 
         requires graphs { AreGraphs dict self.now.index.now graphs.now }
         requires some { 0 < length graphs.now }
         requires within { is_within self.now.width (algebra_of inner.now) ≡ true }
-        ensures evaluated { IfOk result (λ r. IsEvaluated dict self.now.width
-            (solutions_in dict self.now.index.now self.now.width variable graphs.now
-            (algebra_of inner.now)) r.0 r.1) }
-        ensures needed { IfOk result (λ r. TakesOnly
-            (NeededIn dict self.now.index.now self.now.width (each_graph variable)
-            (algebra_of inner.now)) dict r.1) }
+        ensures evaluated { IfOk result (λ r. IsEvaluatedIn dict self.now.index.now
+            self.now.width variable graphs.now (algebra_of inner.now) r.0 r.1) }
+        ensures needed { IfOk result (λ r. TakesIn dict self.now.index.now
+            self.now.width variable (algebra_of inner.now) r.1) }
         ensures one_worker { HasOneWorker self.now.context.how.now → IfErr result (λ fault. fault ≡ Memory) }
     {
         if let Operator::Union { left, right } = inner {
@@ -769,12 +763,10 @@ impl<'c, 'i, 'e, R: Threads + Wait, G: Gate + Sync> Evaluator<'c, 'i, 'e, R, G> 
         requires graphs { AreGraphs dict self.now.index.now graphs.now }
         requires some { 0 < length graphs.now }
         requires within { is_within self.now.width (algebra_of inner.now) ≡ true }
-        ensures evaluated { IfOk result (λ r. IsEvaluated dict self.now.width
-            (solutions_in dict self.now.index.now self.now.width variable graphs.now
-            (algebra_of inner.now)) r.0 r.1) }
-        ensures needed { IfOk result (λ r. TakesOnly
-            (NeededIn dict self.now.index.now self.now.width (each_graph variable)
-            (algebra_of inner.now)) dict r.1) }
+        ensures evaluated { IfOk result (λ r. IsEvaluatedIn dict self.now.index.now
+            self.now.width variable graphs.now (algebra_of inner.now) r.0 r.1) }
+        ensures needed { IfOk result (λ r. TakesIn dict self.now.index.now
+            self.now.width variable (algebra_of inner.now) r.1) }
         ensures one_worker { HasOneWorker self.now.context.how.now → IfErr result (λ fault. fault ≡ Memory) }
     {
         if let Operator::Filter {
@@ -820,9 +812,8 @@ impl<'c, 'i, 'e, R: Threads + Wait, G: Gate + Sync> Evaluator<'c, 'i, 'e, R, G> 
             (solutions_of dict left
             ++ solutions_in dict self.now.index.now self.now.width variable graphs.now
             (algebra_of right.now)) r.0 r.1) }
-        ensures needed { IfOk result (λ r. TakesOnly
-            (NeededIn dict self.now.index.now self.now.width (each_graph variable)
-            (algebra_of right.now)) dict r.1) }
+        ensures needed { IfOk result (λ r. TakesIn dict self.now.index.now
+            self.now.width variable (algebra_of right.now) r.1) }
         ensures one_worker { HasOneWorker self.now.context.how.now → IfErr result (λ fault. fault ≡ Memory) }
     {
         let (right, dict) = self.solve_each(dict, variable, graphs, right)?;
@@ -846,12 +837,10 @@ impl<'c, 'i, 'e, R: Threads + Wait, G: Gate + Sync> Evaluator<'c, 'i, 'e, R, G> 
         requires some { 0 < length graphs.now }
         requires not_mentioned { mentions (expression_of condition.now) variable ≡ false }
         requires within { is_within self.now.width (algebra_of inner.now) ≡ true }
-        ensures evaluated { IfOk result (λ r. IsEvaluated dict self.now.width
-            (solutions_in dict self.now.index.now self.now.width variable graphs.now
-            (Filter (expression_of condition.now) (algebra_of inner.now))) r.0 r.1) }
-        ensures needed { IfOk result (λ r. TakesOnly
-            (NeededIn dict self.now.index.now self.now.width (each_graph variable)
-            (Filter (expression_of condition.now) (algebra_of inner.now))) dict r.1) }
+        ensures evaluated { IfOk result (λ r. IsEvaluatedIn dict self.now.index.now
+            self.now.width variable graphs.now (Filter (expression_of condition.now) (algebra_of inner.now)) r.0 r.1) }
+        ensures needed { IfOk result (λ r. TakesIn dict self.now.index.now
+            self.now.width variable (Filter (expression_of condition.now) (algebra_of inner.now)) r.1) }
         ensures one_worker { HasOneWorker self.now.context.how.now → IfErr result (λ fault. fault ≡ Memory) }
     {
         let pairs = with_equalities(self.context.alloc, condition, &[])?;
@@ -892,9 +881,8 @@ impl<'c, 'i, 'e, R: Threads + Wait, G: Gate + Sync> Evaluator<'c, 'i, 'e, R, G> 
         ensures evaluated { IfOk result (λ r. IsEvaluatedWhere dict self.now.width (fits pairs.now)
             (solutions_in dict self.now.index.now self.now.width variable graphs.now
             (algebra_of inner.now)) r.0 r.1) }
-        ensures needed { IfOk result (λ r. TakesOnly
-            (NeededIn dict self.now.index.now self.now.width (each_graph variable)
-            (algebra_of inner.now)) dict r.1) }
+        ensures needed { IfOk result (λ r. TakesIn dict self.now.index.now
+            self.now.width variable (algebra_of inner.now) r.1) }
         ensures one_worker { HasOneWorker self.now.context.how.now → IfErr result (λ fault. fault ≡ Memory) }
     {
         if let Operator::Join { left, right } = inner {
@@ -942,12 +930,10 @@ impl<'c, 'i, 'e, R: Threads + Wait, G: Gate + Sync> Evaluator<'c, 'i, 'e, R, G> 
         requires another { nat_eq bound variable ≡ false }
         requires not_mentioned { mentions (expression_of expression.now) variable ≡ false }
         requires within { is_within self.now.width (algebra_of inner.now) ≡ true }
-        ensures evaluated { IfOk result (λ r. IsEvaluated dict self.now.width
-            (solutions_in dict self.now.index.now self.now.width variable graphs.now
-            (Extend bound (expression_of expression.now) (algebra_of inner.now))) r.0 r.1) }
-        ensures needed { IfOk result (λ r. TakesOnly
-            (NeededIn dict self.now.index.now self.now.width (each_graph variable)
-            (Extend bound (expression_of expression.now) (algebra_of inner.now))) dict r.1) }
+        ensures evaluated { IfOk result (λ r. IsEvaluatedIn dict self.now.index.now
+            self.now.width variable graphs.now (Extend bound (expression_of expression.now) (algebra_of inner.now)) r.0 r.1) }
+        ensures needed { IfOk result (λ r. TakesIn dict self.now.index.now
+            self.now.width variable (Extend bound (expression_of expression.now) (algebra_of inner.now)) r.1) }
         ensures one_worker { HasOneWorker self.now.context.how.now → IfErr result (λ fault. fault ≡ Memory) }
     {
         let (rows, dict) = self.solve_each(dict, variable, graphs, inner)?;
@@ -979,12 +965,10 @@ impl<'c, 'i, 'e, R: Threads + Wait, G: Gate + Sync> Evaluator<'c, 'i, 'e, R, G> 
         requires some { 0 < length graphs.now }
         requires closed { is_closed (algebra_of inner.now) ≡ true }
         requires within { is_within self.now.width (algebra_of inner.now) ≡ true }
-        ensures evaluated { IfOk result (λ r. IsEvaluated dict self.now.width
-            (solutions_in dict self.now.index.now self.now.width variable graphs.now
-            (algebra_of inner.now)) r.0 r.1) }
-        ensures needed { IfOk result (λ r. TakesOnly
-            (NeededIn dict self.now.index.now self.now.width (each_graph variable)
-            (algebra_of inner.now)) dict r.1) }
+        ensures evaluated { IfOk result (λ r. IsEvaluatedIn dict self.now.index.now
+            self.now.width variable graphs.now (algebra_of inner.now) r.0 r.1) }
+        ensures needed { IfOk result (λ r. TakesIn dict self.now.index.now
+            self.now.width variable (algebra_of inner.now) r.1) }
         ensures one_worker { HasOneWorker self.now.context.how.now → IfErr result (λ fault. fault ≡ Memory) }
     {
         let names = name_rows(self.context.alloc, self.width, variable, graphs)?;
@@ -1005,12 +989,10 @@ impl<'c, 'i, 'e, R: Threads + Wait, G: Gate + Sync> Evaluator<'c, 'i, 'e, R, G> 
         requires variable { variable < self.now.width }
         requires graphs { AreGraphs dict self.now.index.now graphs.now }
         requires within { is_within self.now.width (algebra_of inner.now) ≡ true }
-        ensures evaluated { IfOk result (λ r. IsEvaluated dict self.now.width
-            (solutions_in dict self.now.index.now self.now.width variable graphs.now
-            (algebra_of inner.now)) r.0 r.1) }
-        ensures needed { IfOk result (λ r. TakesOnly
-            (NeededIn dict self.now.index.now self.now.width (each_graph variable)
-            (algebra_of inner.now)) dict r.1) }
+        ensures evaluated { IfOk result (λ r. IsEvaluatedIn dict self.now.index.now
+            self.now.width variable graphs.now (algebra_of inner.now) r.0 r.1) }
+        ensures needed { IfOk result (λ r. TakesIn dict self.now.index.now
+            self.now.width variable (algebra_of inner.now) r.1) }
         ensures one_worker { HasOneWorker self.now.context.how.now → IfErr result (λ fault. fault ≡ Memory) }
     {
         let _distinct = dict.len();

@@ -1,5 +1,6 @@
 //! The variables that an expression mentions, and those that the solutions of a tree may bind.
-ghost use Rattle.std.specs.Prelude.{◌≡◌, ◌<◌, ◌||◌, Bool, false, map};
+ghost use Rattle.std.specs.Prelude.{◌≡◌, ◌<◌, ◌||◌, ℕ, false, true, map};
+ghost use Rattle.std.specs.List.{list_any};
 ghost use Rattle.algebra_model.specs.Bgp.{is_at, occurs};
 ghost use Rattle.expression_values.specs.ExpressionOf.{expression_of};
 ghost use Rattle.sparql_algebra.specs.AlgebraOf.{algebra_of, graph_name_of, pattern_term_of, triple_pattern_of};
@@ -7,8 +8,8 @@ ghost use Rattle.sparql_eval.specs.Mentions.{may_bind, mentions, names_by};
 
 use sparql_algebra::{Expr, GraphName, Operator, PatternTerm, TriplePattern};
 
-/// Returns false only if the expression does not mention the variable. Returns true for IN, whose
-/// list is not read.
+/// Returns false only if the expression does not mention the variable. Returns true for IN with a list
+/// that has other expressions than terms.
 pub(crate) fn may_mention(expr: &Expr, variable: usize) -> bool
     ensures not_mentioned { result ≡ false
         → mentions (expression_of expr.now) variable ≡ false }
@@ -26,12 +27,41 @@ pub(crate) fn may_mention(expr: &Expr, variable: usize) -> bool
         Expr::Compare { left, right, .. } => {
             either(may_mention(left, variable), may_mention(right, variable))
         }
-        Expr::In { .. } => true,
+        Expr::In { item, list } => {
+            either(
+                may_mention(item, variable),
+                may_mention_some(list.as_slice()),
+            )
+        }
         Expr::Call { argument, .. } => may_mention(argument, variable),
         Expr::Bound(number) => *number == variable,
         Expr::SameTerm { left, right } => {
             either(may_mention(left, variable), may_mention(right, variable))
         }
+    }
+}
+
+/// Returns false only if each expression of the list is a term. Then none mentions a variable.
+fn may_mention_some(list: &[Expr]) -> bool
+    ensures not_mentioned { result ≡ false → (v : ℕ)
+        → list_any (λ e. mentions e v) (map expression_of list.now) ≡ false }
+{
+    for i in 0..list.len() {
+        if !is_term(&list[i]) {
+            return true;
+        }
+    }
+    false
+}
+
+/// Returns whether the expression is a term.
+fn is_term(expr: &Expr) -> bool
+    ensures not_mentioned { result ≡ true → (v : ℕ)
+        → mentions (expression_of expr.now) v ≡ false }
+{
+    match expr {
+        Expr::Constant(_) => true,
+        _ => false,
     }
 }
 

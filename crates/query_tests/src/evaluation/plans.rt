@@ -320,6 +320,7 @@ SELECT * { GRAPH ?g { ?s <a:p> ?o GRAPH ?g { ?t <a:p> ?u } } }                  
 const NESTED_GRAPHS: &str = r#"
 # FILTER, OPTIONAL, MINUS and UNION of a pattern and of an inner GRAPH, in each graph.
 SELECT ?g ?s ?h { GRAPH ?g { ?s <a:p> ?o GRAPH ?h { ?t <a:p> ?s } FILTER(?o != <a:z>) } }  => 2: <a:g> <a:x> _:h - -; _:h <a:y> <a:g> - -
+SELECT ?g ?s ?h { GRAPH ?g { ?s <a:p> ?o GRAPH ?h { ?t <a:p> ?s } FILTER(?o IN (<a:x>)) } } => 1: _:h <a:y> <a:g> - -
 SELECT ?g ?s ?h { GRAPH ?g { ?s <a:p> ?o OPTIONAL { GRAPH ?h { ?o <a:p> ?s } } } }         => 2: <a:g> <a:x> _:h -; _:h <a:y> <a:g> -
 SELECT ?g ?s ?t { GRAPH ?g { ?s <a:p> ?o OPTIONAL { GRAPH <a:g> { ?t <a:p> ?s } } } }      => 2: <a:g> <a:x> - -; _:h <a:y> <a:x> -
 SELECT ?g ?s { GRAPH ?g { ?s <a:p> ?o MINUS { GRAPH <a:g> { ?s <a:p> ?u } } } }            => 1: _:h <a:y> - -
