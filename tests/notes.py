@@ -854,6 +854,17 @@ def large():
         yield document, f"{pairs}{more}FILTER(?x = ?y) }}", [*missing, note]
 
 
+def tags():
+    """Returns cases with language tags in capitals, of which each that LANG is compared with has a note."""
+    start = "SELECT ?s { ?s <http://e/label> ?l FILTER("
+    document = '<http://e/a> <http://e/label> "x"@en-US .\n'
+    for condition, found in (('LANG(?l) = "en-US"', ["en-US"]), ('"EN" != LANG(?l)', ["EN"]), ('LANG(?l) IN ("en", "en-US", "DE") || ?l = "A"@DE', ["en-US", "DE"]),
+                             ('LANG(?l) NOT IN ("FR") && STR(?l) != "FR"', ["FR"]), ('LANG(?l) = "en-us" && STR(?l) IN ("EN")', [])):
+        yield document, f"{start}{condition}) }}", [
+            f'spq: note: "{tag}" at line 1, column {len(start) + condition.index(f"{chr(34)}{tag}{chr(34)}") + 1} is never a value of LANG: '
+            f'tags are in lower case (write "{tag.lower()}")' for tag in found]
+
+
 def are_among(said, wanted):
     """Returns whether each note is one of the others, with at most its number of rows."""
     def split(note):
@@ -881,7 +892,7 @@ def main():
     given = words.parse_args()
     if not os.path.exists(given.program):
         sys.exit(f"no program at {given.program}: build it first (see README)")
-    made = {f"query {at}": it for at, it in enumerate([*daily(), *large()], 1)}
+    made = {f"query {at}": it for at, it in enumerate([*daily(), *large(), *tags()], 1)}
     made |= {f"case {seed}": case(seed) for seed in range(given.seed, given.seed + given.count)}
     with concurrent.futures.ThreadPoolExecutor(os.cpu_count()) as pool:
         found = list(pool.map(lambda it: wrong(os.path.abspath(given.program), *it), made.values()))

@@ -1,4 +1,7 @@
 //! The notes on rows that an error of an expression costs.
+ghost use Rattle.std.specs.Prelude.{◌≡◌};
+ghost use Rattle.query_notes.specs.Speaking.{speaks};
+
 use crate::outline::{Outline, Site, SiteKind};
 use crate::texts::Text;
 use expression_errors::{Cause, Tally};
@@ -16,7 +19,9 @@ const XSD: &str = "http://www.w3.org/2001/XMLSchema#";
 ///
 /// `=` of two literals that look different is not counted at all, as `condition_cause` of the crate
 /// expression_errors says.
-pub fn speaks(tally: &Tally) -> bool {
+pub fn speaks(tally: &Tally) -> bool
+    ensures value { result ≡ speaks tally.now }
+{
     !tally.cause.is_common() || tally.is_everywhere
 }
 

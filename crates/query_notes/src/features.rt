@@ -168,7 +168,41 @@ fn capital_tag(text: &Text<'_>, lang: usize) -> Option<usize> {
     None
 }
 
-/// Appends a note for each language tag with capitals that LANG is compared with.
+/// Returns the place of the list of IN or NOT IN that the LANG at a place is looked up in.
+fn list_after(text: &Text<'_>, lang: usize) -> Option<usize> {
+    let after = lang.saturating_add(4);
+    let member = if kind_at(text, after) == Some(Kind::Keyword(Keyword::Not)) {
+        after.saturating_add(1)
+    } else {
+        after
+    };
+    if is_sign(text, lang.saturating_add(3), Sign::CloseParenthesis)
+        && kind_at(text, member) == Some(Kind::Keyword(Keyword::In))
+    {
+        return Some(member.saturating_add(1));
+    }
+    None
+}
+
+/// Appends a note for each language tag with capitals in the list at a place.
+fn push_listed_tags(
+    out: &mut String,
+    alloc: Global,
+    text: &Text<'_>,
+    list: usize,
+) -> Result<(), AllocError> {
+    for at in list..text.tokens.len() {
+        if is_sign(text, at, Sign::CloseParenthesis) {
+            break;
+        }
+        if is_capital(text, at) {
+            push_tag(out, alloc, text, at)?;
+        }
+    }
+    Ok(())
+}
+
+/// Appends a note for each language tag with capitals that LANG is compared with, by `=`, `!=`, IN or NOT IN.
 ///
 /// # Errors
 /// `AllocError` if an allocation fails.
@@ -177,6 +211,9 @@ pub fn push_tags(out: &mut String, alloc: Global, text: &Text<'_>) -> Result<(),
         if kind_at(text, at) == Some(Kind::Keyword(Keyword::Lang)) {
             if let Some(string) = capital_tag(text, at) {
                 push_tag(out, alloc, text, string)?;
+            }
+            if let Some(list) = list_after(text, at) {
+                push_listed_tags(out, alloc, text, list)?;
             }
         }
     }
