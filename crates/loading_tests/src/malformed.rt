@@ -186,7 +186,7 @@ fn a_load_lists_the_same(rt: HostRuntime) {
     check_loads(&rt, alloc, 65536, 4);
 }
 
-/// Appends a line: a malformed one, or a comment of 65,999 bytes, so that a round with one worker has one or two of these.
+/// Appends a malformed line, or a comment of 66,000 bytes. A round with one worker has one or two comments.
 fn append_line(doc: &mut Vec<u8>, is_malformed: bool) -> Result<(), AllocError> {
     if is_malformed {
         doc.extend_from_slice(b"x\n")?;
@@ -200,8 +200,8 @@ fn append_line(doc: &mut Vec<u8>, is_malformed: bool) -> Result<(), AllocError> 
     Ok(())
 }
 
-/// Builds a document of many rounds: after three comments, each seventh line is malformed, this number in all. A comment
-/// is its end.
+/// Builds a document of many rounds: three comments, and then this number of malformed lines, each followed by six
+/// comments.
 fn many_rounds(alloc: Global, malformed: usize) -> Result<Vec<u8>, AllocError> {
     let mut doc = Vec::new(alloc);
     for _ in 0..3 {
@@ -223,7 +223,7 @@ const TWENTY: &str =
 const TWENTY_ONE: &str =
     "4:x 11:x 18:x 25:x 32:x 39:x 46:x 53:x 60:x 67:x 74:x 81:x 88:x 95:x 102:x 109:x 116:x 123:x 130:x 137:x 21 of 150; 21 expected a subject (an IRI or a blank node), from 4:1";
 
-/// Checks the list of a document of many rounds, and that the listener is told of its first line, once.
+/// Checks the list of a document of many rounds, and that the listener is called once, with the first malformed line.
 fn check_rounds<R: Threads + Wait + RandomSource + Abort>(
     rt: &R,
     alloc: Global,
@@ -245,7 +245,7 @@ fn check_rounds<R: Threads + Wait + RandomSource + Abort>(
     equal_by(rt, "the line", workers, 4, numbers.load(Ordering::SeqCst));
 }
 
-/// All rounds are listed, and the first twenty malformed lines of them are kept.
+/// All rounds are listed, and their first twenty malformed lines are kept.
 #[test]
 fn a_list_goes_over_many_rounds(rt: HostRuntime) {
     let alloc = rt.alloc();

@@ -33,8 +33,16 @@ pub(crate) enum Call {
     Terms,
 }
 
-/// Reads a reader, in blocks of at least `size` bytes, and returns the counts of quads, terms and graph names that the
-/// call reports. `load_terms` reports the terms alone.
+/// A call with a reader: in blocks of at least `size` bytes, with this number of workers.
+#[derive(Clone, Copy, Debug)]
+pub(crate) struct Reading {
+    pub(crate) call: Call,
+    pub(crate) size: usize,
+    pub(crate) workers: usize,
+}
+
+/// Reads a reader, and returns the counts of quads, terms and graph names that the call reports. `load_terms` reports
+/// the terms alone.
 pub(crate) fn counts_of<
     R: Threads + Wait + RandomSource,
     S: Source,
@@ -43,18 +51,17 @@ pub(crate) fn counts_of<
 >(
     rt: &R,
     alloc: Global,
-    call: Call,
+    reading: Reading,
     reader: &mut S,
-    size: usize,
-    workers: usize,
     gate: &G,
     notes: &mut LoadNotes,
     listener: &L,
 ) -> Result<(u64, u64, u64), ReaderFault>
-    requires size { 1 ≤ size }
-    requires workers { (1 ≤ workers) × (workers ≤ 64) }
+    requires size { 1 ≤ reading.size }
+    requires workers { (1 ≤ reading.workers) × (reading.workers ≤ 64) }
 {
-    match call {
+    let (size, workers) = (reading.size, reading.workers);
+    match reading.call {
         Call::Load => counts(load_reader(rt, alloc, size, reader, workers, gate, notes, listener)),
         Call::Count => {
             let counted = count_reader(rt, alloc, size, reader, workers, gate, notes, listener)?;
@@ -72,24 +79,20 @@ pub(crate) fn counts_of<
 fn streamed<R: Threads + Wait + RandomSource, G: Gate + Sync>(
     rt: &R,
     alloc: Global,
-    call: Call,
+    reading: Reading,
     doc: &[u8],
-    size: usize,
-    workers: usize,
     gate: &G,
 ) -> Result<String, AllocError>
-    requires size { 1 ≤ size }
-    requires workers { (1 ≤ workers) × (workers ≤ 64) }
+    requires size { 1 ≤ reading.size }
+    requires workers { (1 ≤ reading.workers) × (reading.workers ≤ 64) }
 {
     let mut reader = Device { inner: doc };
     let mut notes = LoadNotes::new();
     let found = counts_of(
         rt,
         alloc,
-        call,
+        reading,
         &mut reader,
-        size,
-        workers,
         gate,
         &mut notes,
         &NoListener,
@@ -133,24 +136,18 @@ const DOCUMENTS: &[(&str, &[u8], &str, &str)] = &[
 ];
 
 /// Checks that each document is read as expected.
-fn check_call<R: Threads + Wait + RandomSource + Abort>(
-    rt: &R,
-    alloc: Global,
-    call: Call,
-    size: usize,
-    workers: usize,
-)
-    requires size { 1 ≤ size }
-    requires workers { (1 ≤ workers) × (workers ≤ 64) }
+fn check_call<R: Threads + Wait + RandomSource + Abort>(rt: &R, alloc: Global, reading: Reading)
+    requires size { 1 ≤ reading.size }
+    requires workers { (1 ≤ reading.workers) × (reading.workers ≤ 64) }
 {
     for (name, doc, all, terms) in DOCUMENTS {
-        let expected = if matches!(call, Call::Terms) {
+        let expected = if matches!(reading.call, Call::Terms) {
             *terms
         } else {
             *all
         };
-        let found = streamed(rt, alloc, call, *doc, size, workers, &OpenGate);
-        gives_by(rt, *name, [size, workers], expected, found);
+        let found = streamed(rt, alloc, reading, *doc, &OpenGate);
+        gives_by(rt, *name, [reading.size, reading.workers], expected, found);
     }
 }
 
@@ -164,9 +161,14 @@ fn check_calls<R: Threads + Wait + RandomSource + Abort>(
     requires size { 1 ≤ size }
     requires workers { (1 ≤ workers) × (workers ≤ 64) }
 {
-    check_call(rt, alloc, Call::Load, size, workers);
-    check_call(rt, alloc, Call::Count, size, workers);
-    check_call(rt, alloc, Call::Terms, size, workers);
+    for call in [Call::Load, Call::Count, Call::Terms] {
+        let reading = Reading {
+            call,
+            size,
+            workers,
+        };
+        check_call(rt, alloc, reading);
+    }
 }
 
 #[test]
@@ -198,7 +200,12 @@ fn check_gate<R: Abort>(rt: &R, gate: &Counter) {
 fn rounds_count_lines_and_pieces_of_the_document(rt: HostRuntime) {
     let doc = three_rounds(rt.alloc()).expect(&rt, "a document");
     let gate = Counter::new();
-    let found = streamed(&rt, rt.alloc(), Call::Load, doc.as_slice(), 65536, 1, &gate);
+    let reading = Reading {
+        call: Call::Load,
+        size: 65536,
+        workers: 1,
+    };
+    let found = streamed(&rt, rt.alloc(), reading, doc.as_slice(), &gate);
     gives(
         &rt,
         "a reader",
@@ -238,15 +245,12 @@ fn statements(alloc: Global) -> Result<Vec<u8>, AllocError> {
 fn all_rounds_are_added(rt: HostRuntime) {
     let doc = statements(rt.alloc()).expect(&rt, "a document");
     for workers in 1..3 {
-        let found = streamed(
-            &rt,
-            rt.alloc(),
-            Call::Count,
-            doc.as_slice(),
-            65536,
+        let reading = Reading {
+            call: Call::Count,
+            size: 65536,
             workers,
-            &OpenGate,
-        );
+        };
+        let found = streamed(&rt, rt.alloc(), reading, doc.as_slice(), &OpenGate);
         gives_by(
             &rt,
             "three rounds",
@@ -280,13 +284,16 @@ fn failing<R: Threads + Wait + RandomSource>(
 {
     let mut reader = SliceSource::failing_after(doc, 8192, until);
     let mut notes = LoadNotes::new();
+    let reading = Reading {
+        call,
+        size: 65536,
+        workers,
+    };
     let found = counts_of(
         rt,
         alloc,
-        call,
+        reading,
         &mut reader,
-        65536,
-        workers,
         &OpenGate,
         &mut notes,
         &NoListener,

@@ -10,7 +10,7 @@ use crate::documents::{
     BAD, Counts, GRAPHS, NUMBERED, REPEATED, TAGGED, TWO_LINES, TYPED, counts, loaded,
     loaded_blocks,
 };
-use crate::readers::{Call, counts_of};
+use crate::readers::{Call, Reading, counts_of};
 use dataset_load::{LoadFault, LoadNotes, NoListener, ReaderFault};
 use nquads_core::Device;
 use std::alloc::Global;
@@ -45,13 +45,16 @@ fn from_reader<R: Threads + Wait + RandomSource + Print>(
 {
     let mut reader = Device { inner: doc };
     let mut notes = LoadNotes::new();
+    let reading = Reading {
+        call,
+        size: 1,
+        workers,
+    };
     let found = counts_of(
         rt,
         alloc,
-        call,
+        reading,
         &mut reader,
-        1,
-        workers,
         gate,
         &mut notes,
         &NoListener,
