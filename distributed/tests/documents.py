@@ -75,6 +75,6 @@ def case(dice: random.Random) -> tuple:
     }[kind]
     distinct = dice.choice(["", "", "DISTINCT "])
     variables = dice.choice(["*", "*", "?c ?a", "?k ?b ?z ?a"])
-    modifiers = dice.choice(["", "", " LIMIT 2", " LIMIT 3 # OFFSET 9", " LIMIT 1"])
+    modifiers = dice.choice(["", "", " LIMIT 2", " LIMIT 3 # OFFSET 9", " OFFSET 1", " OFFSET 2 LIMIT 2"])
     query = f"{parts.PREFIX}SELECT {distinct}{variables} {{ {parts.label_once(group)} }}{modifiers}"
     return options, statements, query

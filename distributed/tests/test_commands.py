@@ -148,7 +148,8 @@ class Forms(unittest.TestCase):
     def test_many_rows(self):
         """A part of more rows than are sent at once, and limits beyond 64 bits."""
         text = b"".join(b'<a:s%d> <a:p> "%d" .\n' % (k, k % 99) for k in range(12_000))
-        for query in ["SELECT * { ?s ?p ?o }", "SELECT ?o { ?s ?p ?o } LIMIT 9223372036854775808", "SELECT DISTINCT ?o { ?s ?p ?o } LIMIT 99999999999999999999999"]:
+        for query in ["SELECT * { ?s ?p ?o }", "SELECT ?o { ?s ?p ?o } LIMIT 9223372036854775808", "SELECT DISTINCT ?o { ?s ?p ?o } LIMIT 99999999999999999999999",
+                      "SELECT * { ?s ?p ?o } LIMIT 10 OFFSET 11000", "SELECT DISTINCT ?o { ?s ?p ?o } OFFSET 90"]:
             asked = ["select", "--query", query]
             for split in ["lines", "subject"]:
                 self.assertEqual(spq_dask([*asked, "--split", split, "--blocksize", "1MiB"], file(text))[:2], spq(asked, text))

@@ -101,7 +101,6 @@ class Queries(unittest.TestCase):
             (["--split", "graph"], "SELECT * { GRAPH ?g { ?a ?b ?c } GRAPH ?h { ?a ?b ?c } }"),
             (["--split", "subject"], "SELECT * { ?a ?b ?c . ?c ?d ?e }"),
             (["--split", "lines"], "SELECT * { ?a ?b ?c . ?c ?d ?e }"),
-            (["--split", "lines"], "SELECT * { ?a ?b ?c } OFFSET 1"),
         ]:
             status, said, told = spq_dask(["select", "--query", text, *options], path)
             self.assertEqual((status, said), (3, b"error: command line\n"))

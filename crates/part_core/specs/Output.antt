@@ -13,7 +13,7 @@ use Rattle.cluster_parts.specs.Keys.{key_of}
 use Rattle.cluster_parts.specs.declared.key_splits.QuadKey.{QuadKey}
 use Rattle.query_split.specs.declared.split.Split.{Split}
 use Rattle.query_plan.specs.Planned.{IsPlan}
-use Rattle.query_plan.specs.declared.planning.MergePlan.{MergePlan}
+use Rattle.query_plan.specs.declared.planning.PartsPlan.{PartsPlan}
 use Rattle.result_merge.specs.Merging.{IsMerged}
 use Rattle.part_core.specs.declared.command.Command.{Command}
 use Rattle.part_core.specs.declared.command.Command.TheVariants.{SplitCheck, Count, Repeated, Join, Again, SplitTerms, First, Keep, SplitQuads, Unseal, Plan, Merge}
@@ -91,22 +91,23 @@ pub record IsKeptOf (input output : List ℕ) : Type 0 where
   pub listed : IsKept list marks output
 
 -- the words of a merge
-abbrev pub rows_word : Bool → List ℕ
-rows_word true = codes "distinct"
-rows_word false = codes "all"
+abbrev pub rows_words : Bool → List ℕ
+rows_words true = codes "merge distinct "
+rows_words false = codes "merge all "
 
 abbrev pub limit_word : Option ℕ → List ℕ
 limit_word None = codes "none"
 limit_word (Some n) = decimal n
 
-abbrev pub merge_line : MergePlan → List ℕ
-merge_line plan = codes "merge " ++ (rows_word plan.distinct ++ (codes " 0 " ++ (limit_word plan.limit ++ codes "\n")))
+abbrev pub merge_line : Bool → ℕ → Option ℕ → List ℕ
+merge_line once offset limit = rows_words once ++ (decimal offset ++ (codes " " ++ (limit_word limit ++ codes "\n")))
 
--- `plan`: the words of the last merge, those of the merges before it, and the query for the parts, which is the query itself
+-- `plan`: the words of the last merge, those of the merges before it, and the query for the parts
 pub record IsPlanned (split : Split) (input output : List ℕ) : Type 0 where
-  pub plan : MergePlan
+  pub plan : PartsPlan
   pub planned : IsPlan split input plan
-  pub lines : output ≡ merge_line plan ++ (merge_line plan ++ input)
+  pub lines : output ≡ merge_line plan.merge.distinct plan.merge.offset plan.merge.limit
+      ++ (merge_line plan.merge.distinct 0 plan.merge.kept ++ plan.query.items)
 
 -- what a command writes
 abbrev pub IsOutput : Command → List ℕ → List ℕ → Type 0

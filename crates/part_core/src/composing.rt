@@ -20,7 +20,7 @@ use cluster_parts::{
     split_for_check, split_for_terms, split_quads,
 };
 use itoa::Buffer;
-use query_plan::{MergePlan, plan};
+use query_plan::{PartsPlan, plan};
 use query_split::Split;
 use result_merge::merge;
 use std::alloc::{AllocError, Global};
@@ -76,9 +76,8 @@ fn count_of(alloc: Global, state: RandomState, document: &[u8]) -> Result<u64, P
 fn number_line(alloc: Global, n: u64) -> Result<Vec<u8>, AllocError>
     ensures line { IfOk result (λ line. line.items ≡ decimal n ++ codes "\n") }
 {
-    let mut buffer = Buffer::new();
     let mut line = Vec::new(alloc);
-    line.extend_from_slice(buffer.format(n).as_bytes())?;
+    push_decimal(&mut line, n)?;
     line.extend_from_slice(b"\n")?;
     Ok(line)
 }
@@ -289,39 +288,57 @@ fn kept(alloc: Global, input: &[u8]) -> Result<Vec<u8>, PartFault>
     }
 }
 
-/// Appends the line of a merge.
-fn push_merge(out: &mut Vec<u8>, plan: &MergePlan) -> Result<(), AllocError>
-    ensures line { OnOk result (out.new.items ≡ out.old.items ++ merge_line plan.now) }
+/// Appends a number.
+fn push_decimal(out: &mut Vec<u8>, n: u64) -> Result<(), AllocError>
+    ensures number { OnOk result (out.new.items ≡ out.old.items ++ decimal n) }
 {
-    let rows: &[u8] = if plan.distinct { b"distinct" } else { b"all" };
-    out.extend_from_slice(b"merge ")?;
-    out.extend_from_slice(rows)?;
-    out.extend_from_slice(b" 0 ")?;
-    push_limit(out, plan.limit)?;
-    out.extend_from_slice(b"\n")?;
-    Ok(())
+    let mut buffer = Buffer::new();
+    out.extend_from_slice(buffer.format(n).as_bytes())
 }
 
 /// Appends the word of a LIMIT.
 fn push_limit(out: &mut Vec<u8>, limit: Option<u64>) -> Result<(), AllocError>
     ensures word { OnOk result (out.new.items ≡ out.old.items ++ limit_word limit) }
 {
-    let mut buffer = Buffer::new();
     match limit {
-        Some(limit) => out.extend_from_slice(buffer.format(limit).as_bytes()),
+        Some(limit) => push_decimal(out, limit),
         None => out.extend_from_slice(b"none"),
     }
 }
 
-/// Returns what `plan` writes.
-fn plan_text(alloc: Global, plan: &MergePlan, query: &[u8]) -> Result<Vec<u8>, AllocError>
-    ensures text { IfOk result
-        (λ out. out.items ≡ merge_line plan.now ++ (merge_line plan.now ++ query.now)) }
+/// Appends the line of a merge.
+fn push_merge(
+    out: &mut Vec<u8>,
+    distinct: bool,
+    offset: u64,
+    limit: Option<u64>,
+) -> Result<(), AllocError>
+    ensures line { OnOk result (out.new.items ≡ out.old.items ++ merge_line distinct offset limit) }
 {
+    let rows: &[u8] = if distinct {
+        b"merge distinct "
+    } else {
+        b"merge all "
+    };
+    out.extend_from_slice(rows)?;
+    push_decimal(out, offset)?;
+    out.extend_from_slice(b" ")?;
+    push_limit(out, limit)?;
+    out.extend_from_slice(b"\n")?;
+    Ok(())
+}
+
+/// Returns what `plan` writes.
+fn plan_text(alloc: Global, plan: &PartsPlan) -> Result<Vec<u8>, AllocError>
+    ensures text { IfOk result (λ out. out.items
+        ≡ merge_line plan.now.merge.distinct plan.now.merge.offset plan.now.merge.limit
+        ++ (merge_line plan.now.merge.distinct 0 plan.now.merge.kept ++ plan.now.query.items)) }
+{
+    let merge = plan.merge;
     let mut out = Vec::new(alloc);
-    push_merge(&mut out, plan)?;
-    push_merge(&mut out, plan)?;
-    out.extend_from_slice(query)?;
+    push_merge(&mut out, merge.distinct, merge.offset, merge.limit)?;
+    push_merge(&mut out, merge.distinct, 0, merge.kept)?;
+    out.extend_from_slice(plan.query.as_slice())?;
     Ok(out)
 }
 
@@ -334,7 +351,7 @@ fn planned(alloc: Global, input: &[u8], split: &Split) -> Result<Vec<u8>, PartFa
         return Err(PartFault::Query);
     };
     match plan(alloc, text, split) {
-        Ok(found) => match plan_text(alloc, &found, input) {
+        Ok(found) => match plan_text(alloc, &found) {
             Ok(out) => Ok(out),
             Err(_) => Err(PartFault::Memory),
         },
@@ -370,7 +387,7 @@ fn merged(alloc: Global, input: &[u8], merging: &Merging) -> Result<Vec<u8>, Par
 /// - `Version` if another version of the program wrote the input.
 /// - `Damaged` if the input was damaged, or does not fit together.
 /// - `Query` if a rule rejects the query of `plan`, or it is not UTF-8.
-/// - `Split` if the query of `plan` cannot be evaluated on the parts of the split, or has OFFSET.
+/// - `Split` if the query of `plan` cannot be evaluated on the parts of the split, or has OFFSET and no query for the parts.
 /// - `Memory` if an allocation fails.
 pub fn compose(
     alloc: Global,

@@ -27,7 +27,7 @@ pub enum PartFault {
     Line,
     /// A rule rejects the query.
     Query,
-    /// The query cannot be evaluated on the parts of this split, or has OFFSET.
+    /// The query cannot be evaluated on the parts of this split, or has OFFSET and no query for the parts.
     Split,
 }
 

@@ -1,6 +1,7 @@
 -- The rows of a query over a dataset are the merged rows of the query for the parts.
 use Rattle.std.proofs.Common.{◌≡◌, ℕ, Bool, true, false, List, [], ◌∷◌, ◌++◌, length, drop, map, flat_map, Option, None, Some, IsPermutation, refl, sym, ap, ◌∙◌, subst, append-nil}
 use Rattle.std.specs.Prelude.{unwrap_or}
+use Rattle.std.specs.Option.{option_map}
 use Rattle.std.proofs.lemmas.Bool.{and_parts}
 use Rattle.std.proofs.lemmas.List.{map-append}
 use Rattle.std.proofs.lemmas.List.Sorted.{IsPermutation-map}
@@ -66,10 +67,18 @@ tables q (p ∷ parts) =
     let E = λ (D : List QuadParts). eval (length (names_of q)) D None (translate_group (names_of q) q.group) in
     ap (λ l. table_of q p ++ l) (tables q parts) ∙ sym (map-append (cells (projection q)) (E p) (flat_map E parts))
 
+-- the OFFSET of the query for the parts
+abbrev offset_of_parts : Option ℕ → ℕ
+offset_of_parts offset = unwrap_or (option_map (λ _. 0) offset) 0
+
+no_rows_left_out : (offset : Option ℕ) → offset_of_parts offset ≡ 0
+no_rows_left_out None = refl
+no_rows_left_out (Some n) = refl
+
 part_rows : (q : QueryTree) (limit : Option ℕ) (parts : List (List QuadParts)) → map (rows (for_parts limit q)) parts ≡ map (merged q.distinct 0 limit) (groups q parts)
 part_rows q limit [] = refl
 part_rows q limit (p ∷ parts) =
-    λ i. (rows_of (for_parts limit q) p ∙ ap (λ l. slice 0 limit (sorted_list cells_cmp (kept q.distinct l))) (sym (append-nil (table_of q p)))) i ∷ part_rows q limit parts i
+    λ i. (rows_of (for_parts limit q) p ∙ ap (λ o. slice o limit (sorted_list cells_cmp (kept q.distinct (table_of q p)))) (no_rows_left_out q.offset) ∙ ap (λ l. slice 0 limit (sorted_list cells_cmp (kept q.distinct l))) (sym (append-nil (table_of q p)))) i ∷ part_rows q limit parts i
 
 pub parts_give_rows : PartsGiveRows
 parts_give_rows split key q splittable limit enough D part parts are same =

@@ -1,1 +1,4 @@
 pub mod PatternSteps
+pub mod ContextLaws
+pub mod ModifierLaws
+pub mod OffsetLaws

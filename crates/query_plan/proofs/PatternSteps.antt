@@ -1,8 +1,7 @@
 -- The condition on a basic graph pattern, over the triples of the code.
-use Rattle.std.proofs.Common.{◌≡◌, ℕ, zero, suc, ◌+◌, ◌&&◌, not, Bool, true, false, nat_eq, List, [], ◌∷◌, length, map, refl, sym, ap, ◌∙◌, arith, ne_eqb}
+use Rattle.std.proofs.Common.{◌≡◌, ◌&&◌, false, nat_eq, List, [], ◌∷◌, length, map, refl, ap}
 use Rattle.std.specs.List.{list_all}
 use Rattle.std.proofs.lemmas.Bool.{false≢true}
-use Rattle.algebra_model.specs.Bgp as bgp
 use Rattle.sparql_algebra.specs.AlgebraOf.{pattern_term_of, triple_pattern_of}
 use Rattle.sparql_algebra.specs.declared.operator.TriplePattern.{TriplePattern}
 use Rattle.query_split.specs.Condition.{Key, is_apart_pattern, is_key_variable}

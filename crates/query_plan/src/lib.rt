@@ -2,16 +2,17 @@
 //!
 //! [`plan`] reads the text of a query, translates it, and checks the condition of a split (`is_apart` of the crate
 //! query_split). Its contract says that the query may be evaluated on the parts of such a split. Then each part evaluates
-//! the query itself, and the results are merged as the [`MergePlan`] says.
+//! the query for the parts of the [`PartsPlan`], and the results are merged as its [`MergePlan`] says.
 //!
 //! Standard: SPARQL 1.1 Query Language, sections 18.2, 18.5 and 18.6. The conditions are choices of this project.
 //!
-//! Reading order: `condition`, `planning`.
+//! Reading order: `condition`, `offset`, `planning`.
 //!
 //! Not guaranteed: that a query without a plan cannot be evaluated on parts, and enough stack for a query of any depth.
 #![tactic(auto)]
 
 mod condition;
+mod offset;
 mod planning;
 
-pub use planning::{MergePlan, PlanFault, plan};
+pub use planning::{MergePlan, PartsPlan, PlanFault, plan};

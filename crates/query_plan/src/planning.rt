@@ -1,24 +1,41 @@
 //! Whether a query can be evaluated on the parts of a dataset, and how their results are merged.
-ghost use Rattle.std.specs.Prelude.{◌≡◌, true, IfOk};
+ghost use Rattle.std.specs.Prelude.{◌≡◌, ◌+◌, true, unwrap_or, IfOk, IfSome};
+ghost use Rattle.std.specs.Option.{option_map};
+ghost use Rattle.std.specs.Str.{chars};
 ghost use Rattle.sparql_tree.specs.QueryTree.{query_of};
 ghost use Rattle.sparql_algebra.specs.AlgebraOf.{algebra_of};
 ghost use Rattle.query_split.specs.Condition.{Key, is_apart};
-ghost use Rattle.query_split.specs.ForParts.{is_splittable};
+ghost use Rattle.sparql_read.specs.Rejection.{IsValidQuery};
+ghost use Rattle.query_split.specs.ForParts.{for_parts, is_splittable};
 ghost use Rattle.query_plan.specs.Planned.{IsPlan, IsPlanOf, below_project, below_projection};
 
 use crate::condition::is_apart;
+use crate::offset::query_without_offset;
 use query_split::Split;
 use sparql_algebra::{GraphName, Operator, translate};
 use sparql_read::{Query, QueryFault, read_query};
 use std::alloc::{AllocError, Global};
 
-/// How the results of the parts are merged. The parts evaluate the query itself.
+/// How the results of the parts are merged.
 #[derive(Clone, Copy, Debug, Drop, PartialEq, Eq)]
 pub struct MergePlan {
     /// Whether each row is listed once.
     pub distinct: bool,
-    /// The largest number of rows.
+    /// The number of rows that the last merge leaves out at the beginning.
+    pub offset: u64,
+    /// The largest number of rows of the last merge.
     pub limit: Option<u64>,
+    /// The largest number of rows of each part, and of the merges before the last one.
+    pub kept: Option<u64>,
+}
+
+/// How a query is evaluated on the parts of a dataset.
+#[derive(Debug, Drop)]
+pub struct PartsPlan {
+    /// How the results of the parts are merged.
+    pub merge: MergePlan,
+    /// The text of the query for the parts.
+    pub query: Vec<u8>,
 }
 
 /// Why a query cannot be evaluated on the parts of a dataset.
@@ -26,12 +43,24 @@ pub struct MergePlan {
 pub enum PlanFault {
     /// A rule rejects the text of the query.
     Query,
-    /// The query has OFFSET.
+    /// The query has OFFSET, and there is no query for the parts: the sum of OFFSET and LIMIT is above the largest number,
+    /// or a comment with a `}` follows the group.
     Offset,
     /// The query does not meet the condition of the split.
     Condition,
     /// Out of memory.
     Memory,
+}
+
+impl From<AllocError> for PlanFault {
+    ghost use Rattle.std.specs.Prelude.{◌≡◌};
+    ghost use Rattle.query_plan.specs.declared.planning.PlanFault.TheVariants.{Memory};
+
+    ghost from_gives = { λ _ e. e ≡ Memory };
+
+    fn from(_failed: AllocError) -> PlanFault {
+        PlanFault::Memory
+    }
 }
 
 /// Returns the tree below a Project at the root.
@@ -132,36 +161,79 @@ fn meets_condition(alloc: Global, query: &Query, split: &Split) -> Result<bool, 
     Ok(met)
 }
 
-/// Plans a query that no rule rejects.
-fn plan_query(alloc: Global, query: &Query, split: &Split) -> Result<MergePlan, PlanFault>
-    ensures plan { IfOk result (IsPlanOf split.now (query_of query.now)) }
+/// Returns the largest number of rows of each part, or None if the sum of OFFSET and LIMIT is above the largest number.
+fn kept_rows(offset: u64, limit: Option<u64>) -> Option<Option<u64>>
+    ensures sum { IfSome result (λ kept. kept ≡ option_map (λ n. offset + n) limit) }
 {
-    if query.offset.is_some() {
-        return Err(PlanFault::Offset);
-    }
-    match meets_condition(alloc, query, split) {
-        Ok(true) => Ok(MergePlan {
-            distinct: query.distinct,
-            limit: query.limit,
-        }),
-        Ok(false) => Err(PlanFault::Condition),
-        Err(_failed) => Err(PlanFault::Memory),
+    match limit {
+        Some(limit) => match offset.checked_add(limit) {
+            Some(kept) => Some(Some(kept)),
+            None => None,
+        },
+        None => Some(None),
     }
 }
 
-/// Plans how a query is evaluated on the parts of a dataset: each part evaluates the query, and the results are merged.
+/// Returns the text of the query for the parts.
+fn query_text(
+    alloc: Global,
+    text: &str,
+    query: &Query,
+    kept: Option<u64>,
+) -> Result<Vec<u8>, PlanFault>
+    requires read { IsValidQuery (chars text.now) (query_of query.now) }
+    requires sum { kept ≡ option_map (λ n. unwrap_or query.now.offset 0 + n) query.now.limit }
+    ensures read { IfOk result (λ made. IsValidQuery (chars made.items) (for_parts kept (query_of query.now))) }
+{
+    match query.offset {
+        Some(_) => query_without_offset(alloc, text, query, kept),
+        None => Ok(Vec::from_slice(alloc, text.as_bytes())?),
+    }
+}
+
+/// Plans a query that no rule rejects.
+fn plan_query(
+    alloc: Global,
+    text: &str,
+    query: &Query,
+    split: &Split,
+) -> Result<PartsPlan, PlanFault>
+    requires read { IsValidQuery (chars text.now) (query_of query.now) }
+    ensures plan { IfOk result (IsPlanOf split.now (query_of query.now)) }
+{
+    let offset = query.offset.unwrap_or(0);
+    if !meets_condition(alloc, query, split)? {
+        return Err(PlanFault::Condition);
+    }
+    let Some(kept) = kept_rows(offset, query.limit) else {
+        return Err(PlanFault::Offset);
+    };
+    let made = query_text(alloc, text, query, kept)?;
+    Ok(PartsPlan {
+        merge: MergePlan {
+            distinct: query.distinct,
+            offset,
+            limit: query.limit,
+            kept,
+        },
+        query: made,
+    })
+}
+
+/// Plans how a query is evaluated on the parts of a dataset: each part evaluates the query for the parts, and the results
+/// are merged.
 ///
 /// # Errors
 /// - `Query` if a rule rejects the text.
-/// - `Offset` if the query has OFFSET.
 /// - `Condition` if the query does not meet the condition of the split.
+/// - `Offset` if there is no query for the parts, because of OFFSET.
 /// - `Memory` if an allocation fails.
-pub fn plan(alloc: Global, text: &str, split: &Split) -> Result<MergePlan, PlanFault>
+pub fn plan(alloc: Global, text: &str, split: &Split) -> Result<PartsPlan, PlanFault>
     ensures plan { IfOk result (IsPlan split.now text.now) }
 {
     match read_query(alloc, text) {
         Ok(query) => {
-            let made = plan_query(alloc, &query, split);
+            let made = plan_query(alloc, text, &query, split);
             drop(query);
             made
         }

@@ -1,19 +1,20 @@
 -- The query that runs on the parts of a dataset (choices of this project).
 use Rattle.std.specs.Prelude.{◌≡◌, ℕ, Bool, true, Option, None, unwrap_or}
+use Rattle.std.specs.Option.{option_map}
 use Rattle.sparql_tree.specs.QueryTree.{QueryTree}
 use Rattle.sparql_algebra.specs.Names.{names_of}
 use Rattle.sparql_algebra.specs.Translation.{translate_group}
 use Rattle.query_split.specs.declared.split.Split.{Split}
 use Rattle.query_split.specs.Condition.{Key, is_apart}
 
--- the query with another LIMIT, and without OFFSET
+-- the query with another LIMIT, and with OFFSET 0 in the place of its OFFSET
 abbrev pub for_parts : Option ℕ → QueryTree → QueryTree
 for_parts limit q = record {
   distinct = q.distinct;
   selection = q.selection;
   group = q.group;
   limit = limit;
-  offset = None;
+  offset = option_map (λ _. 0) q.offset;
   mentioned = q.mentioned;
 }
 

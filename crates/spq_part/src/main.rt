@@ -65,16 +65,16 @@ fn condition_of(words: &[String]) -> &[u8] {
     };
     match split {
         "lines" => {
-            b"spq-part: a query for lines has one triple pattern, perhaps in GRAPH, in each side of UNION, and no OFFSET\n"
+            b"spq-part: a query for lines has one triple pattern, perhaps in GRAPH, in each side of UNION\n"
         }
         "subject" => {
-            b"spq-part: in a query for subject each triple pattern has the same variable as subject, no group is without one, and there is no OFFSET\n"
+            b"spq-part: in a query for subject each triple pattern has the same variable as subject, and no group is without one\n"
         }
         "graph" => {
-            b"spq-part: in a query for graph each triple pattern is in a GRAPH with the same name, no group is without one, and there is no OFFSET\n"
+            b"spq-part: in a query for graph each triple pattern is in a GRAPH with the same name, and no group is without one\n"
         }
         _ => {
-            b"spq-part: in a query for graph-with-default each GRAPH has the same name, no GRAPH is in another, each side of UNION has one, an OPTIONAL or MINUS with a GRAPH is after one, and there is no OFFSET\n"
+            b"spq-part: in a query for graph-with-default each GRAPH has the same name, no GRAPH is in another, each side of UNION has one, and an OPTIONAL or MINUS with a GRAPH is after one\n"
         }
     }
 }

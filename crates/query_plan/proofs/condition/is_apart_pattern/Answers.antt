@@ -1,4 +1,4 @@
-use Rattle.std.proofs.Common.{◌∙◌, List, map, ap, sym}
+use Rattle.std.proofs.Common.{◌∙◌, map, ap, sym}
 use Rattle.sparql_algebra.specs.AlgebraOf.{triple_pattern_of}
 use Rattle.query_split.specs.declared.split.Split.{Split}
 use Rattle.query_split.specs.Condition.{is_apart_pattern}
