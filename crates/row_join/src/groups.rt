@@ -4,10 +4,10 @@ ghost use Rattle.std.specs.Cmp.Lexicographic.{pointwise};
 ghost use Rattle.std.specs.Prelude.{nat_eq};
 ghost use Rattle.row_join.specs.Places.{group_of, place_if};
 
+use crate::hashing::Hashing;
 use crate::keys::Keys;
 use smallvec::SmallVec;
 use std::alloc::{AllocError, Global};
-use std::hash::RandomState;
 use std::marker::Model;
 
 /// The places of one group. Two of them need no allocation.
@@ -58,14 +58,14 @@ impl Groups {
     /// `AllocError` if an allocation fails.
     pub(crate) fn new(
         alloc: Global,
-        state: RandomState,
+        hashing: Hashing,
         width: usize,
         count: usize,
     ) -> Result<Groups, AllocError>
         ensures empty { IfOk result (λ groups. (numbers : List ℕ) → group_of groups.list numbers ≡ []) }
         ensures width { IfOk result (λ groups. groups.width ≡ width) }
     {
-        let keys = Keys::new(alloc, state, width, count)?;
+        let keys = Keys::new(alloc, hashing, width, count)?;
         Ok(Groups {
             keys,
             groups: Vec::new(alloc),

@@ -5,6 +5,7 @@ ghost use Rattle.algebra_model.specs.RowOrder.{cells};
 ghost use Rattle.row_join.specs.Places.{IsTableOf, group_of};
 
 use crate::groups::Groups;
+use crate::hashing::hashing_of;
 use row_core::Rows;
 use std::alloc::{AllocError, Global};
 use std::hash::RandomState;
@@ -47,7 +48,8 @@ impl Keyed {
         requires below { All (λ v. v < rows.now.width) key.now }
         ensures table { IfOk result (λ keyed. IsTableOf key.now rows.now.rows keyed) }
     {
-        let mut groups = Groups::new(alloc, state, key.len(), rows.len())?;
+        let (hashing, buckets) = hashing_of(state, rows, key);
+        let mut groups = Groups::new(alloc, hashing, key.len(), buckets)?;
         let mut apart = Vec::new(alloc);
         let mut numbers = Vec::new(alloc);
         let mut buffer = Vec::new(alloc);

@@ -4,17 +4,16 @@
 //! before it in its bucket. A place is stored as one more than itself, and 0 is none. The number of buckets is fixed.
 ghost use Rattle.std.specs.Prelude.{◌≡◌, ◌+◌, ◌*◌, ◌<◌, ◌≤◌, ℕ, Some, [], IfOk, OnOk, OnErr, MatchOption, length, max, slice_get};
 ghost use Rattle.row_core.specs.RowList.{rows_in};
-ghost use Rattle.row_join.specs.KeyTable.{IsKeyTable, bucket_of, key_hash, place_of, with_key};
+ghost use Rattle.row_join.specs.KeyTable.{IsKeyTable, bucket_of, place_of, with_key};
 
-use keyed_hash::HashState;
+use crate::hashing::{Hashing, bucket_of};
 use std::alloc::{AllocError, Global};
-use std::hash::RandomState;
 use std::marker::Model;
 
 /// Distinct keys, each a list of `width` numbers, in the order in which they were added. In contracts this type is the
 /// width and the list of the keys.
 pub(crate) struct Keys {
-    state: HashState,
+    hashing: Hashing,
     width: usize,
     numbers: Vec<u64>,
     buckets: Vec<usize>,
@@ -26,7 +25,7 @@ impl Drop for Keys {
     /// keys.
     fn drop(self) {
         let Keys {
-            state: _,
+            hashing: _,
             width: _,
             numbers: _,
             buckets: _,
@@ -45,28 +44,8 @@ impl Model for Keys {
     ghost view = { λ k. record { width = k.width; keys = rows_in k.width k.width (length k.earlier.items) k.numbers.items } };
 
     ghost invariant = { λ k. (length k.numbers.items ≡ length k.earlier.items * k.width)
-        × IsKeyTable (bucket_of k.state (length k.buckets.items)) (rows_in k.width k.width (length k.earlier.items) k.numbers.items)
+        × IsKeyTable (bucket_of k.hashing (length k.buckets.items)) (rows_in k.width k.width (length k.earlier.items) k.numbers.items)
         k.buckets.items k.earlier.items };
-}
-
-/// Returns the hash of a key. Its bits depend on the secret keys of the hash state.
-fn key_hash(state: HashState, numbers: &[u64]) -> u64
-    ensures value { result ≡ key_hash state numbers.now }
-{
-    let mut hash = 0;
-    for number in numbers {
-        hash = state.hash_of(&(hash ^ *number).to_le_bytes());
-    }
-    hash
-}
-
-/// Returns the bucket of a key, of so many buckets.
-fn bucket_of(state: HashState, buckets: usize, numbers: &[u64]) -> usize
-    requires some { 0 < buckets }
-    ensures value { result ≡ bucket_of state buckets numbers.now }
-    ensures within { result < buckets }
-{
-    key_hash(state, numbers) as usize & (buckets - 1)
 }
 
 /// Returns the numbers of the key at a place.
@@ -79,7 +58,7 @@ fn key_at(numbers: &[u64], width: usize, place: usize) -> &[u64]
 
 /// Returns the place of a key, given the fields.
 fn find(
-    state: HashState,
+    hashing: Hashing,
     width: usize,
     numbers: &[u64],
     buckets: &[usize],
@@ -87,13 +66,13 @@ fn find(
     key: &[u64],
 ) -> Option<usize>
     requires long { length numbers.now ≡ length earlier.now * width }
-    requires table { IsKeyTable (bucket_of state (length buckets.now)) (rows_in width width (length earlier.now) numbers.now)
+    requires table { IsKeyTable (bucket_of hashing (length buckets.now)) (rows_in width width (length earlier.now) numbers.now)
         buckets.now earlier.now }
     ensures value { MatchOption result
         (length earlier.now ≡ place_of key.now (rows_in width width (length earlier.now) numbers.now))
         (λ n. (n ≡ place_of key.now (rows_in width width (length earlier.now) numbers.now)) × (n < length earlier.now)) }
 {
-    let mut at = buckets[bucket_of(state, buckets.len(), key)];
+    let mut at = buckets[bucket_of(hashing, buckets.len(), key)];
     while at > 0 {
         if key_at(numbers, width, at - 1) == key {
             return Some(at - 1);
@@ -117,7 +96,7 @@ impl Keys {
     /// `AllocError` if an allocation fails.
     pub(crate) fn new(
         alloc: Global,
-        state: RandomState,
+        hashing: Hashing,
         width: usize,
         count: usize,
     ) -> Result<Keys, AllocError>
@@ -126,7 +105,7 @@ impl Keys {
     {
         let buckets = vec![in alloc; 0usize; bucket_count(count)]?;
         Ok(Keys {
-            state: HashState::new(state),
+            hashing,
             width,
             numbers: Vec::new(alloc),
             buckets,
@@ -140,7 +119,7 @@ impl Keys {
             (λ at. (at ≡ place_of key.now self.now.keys) × (at < length self.now.keys)) }
     {
         find(
-            self.state,
+            self.hashing,
             self.width,
             &self.numbers,
             &self.buckets,
@@ -171,7 +150,7 @@ impl Keys {
         self.earlier.reserve(1)?;
         self.numbers.extend_from_slice(key)?;
         let at = self.earlier.len();
-        let bucket = bucket_of(self.state, self.buckets.len(), key);
+        let bucket = bucket_of(self.hashing, self.buckets.len(), key);
         self.earlier.push_reserved(self.buckets[bucket]);
         self.buckets[bucket] = at + 1;
         Ok(at)

@@ -21,7 +21,7 @@
 //!
 //! Standard: SPARQL 1.1 Query Language, section 18.5.
 //!
-//! Reading order: `keyed` (over `groups` and `keys`, the hash table), `key_choice` (the variables of the key),
+//! Reading order: `keyed` (over `groups`, `keys` and `hashing`, the hash table), `key_choice` (the variables of the key),
 //! `right_side` (the keyed rows, and the candidates for a left row), `left_rows` (the loop over the
 //! left rows, in pieces), `joins`, `left_joins`, `minus_operator`, `distinct_rows`.
 //!
@@ -36,6 +36,7 @@
 
 mod distinct_rows;
 mod groups;
+mod hashing;
 mod joins;
 mod key_choice;
 mod keyed;
