@@ -1,12 +1,12 @@
 -- A hash table of distinct keys (a choice of this project). Only private clauses use these definitions.
-use Rattle.std.specs.Prelude.{◌≡◌, ◌≢◌, ℕ, ◌+◌, ◌-◌, ◌<◌, ◌≤◌, Bool, List, [], ◌∷◌, ◌++◌, length, get_or, nat_eq, bit_and, bit_xor, if◌then◌else◌}
+use Rattle.std.specs.Prelude.{◌≡◌, ◌≢◌, ℕ, ◌+◌, ◌-◌, ◌/◌, ◌^◌, ◌<◌, ◌≤◌, Bool, List, [], ◌∷◌, ◌++◌, length, get_or, nat_eq, min, bit_and, bit_xor, if◌then◌else◌}
 use Rattle.std.specs.List.{fold, list_any, position_or_len}
 use Rattle.std.specs.Cmp.Lexicographic.{pointwise}
 use Rattle.std.specs.Int.{to_le_bytes, w64}
 use Rattle.keyed_hash.specs.Hashing.{hash_of}
 use Rattle.row_join.specs.Places.{GroupList}
 use Rattle.row_join.specs.declared.hashing.Hashing.{Hashing}
-use Rattle.row_join.specs.declared.hashing.Hashing.TheVariants.{Keyed, Direct}
+use Rattle.row_join.specs.declared.hashing.Hashing.TheVariants.{Keyed, Close}
 
 -- keys of one width
 pub record KeyList : Type 0 where
@@ -33,7 +33,7 @@ with_key keys key = if list_any (same_numbers key) keys then keys else keys ++ k
 -- the hash of one number
 abbrev pub hash_step : Hashing → ℕ → ℕ
 hash_step (Keyed state) n = hash_of state (to_le_bytes w64 n)
-hash_step Direct n = n
+hash_step (Close bits) n = n / 2 ^ min bits 63
 
 -- the hash of a key: one step for each number
 abbrev pub key_hash : Hashing → List ℕ → ℕ

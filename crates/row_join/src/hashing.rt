@@ -1,8 +1,8 @@
 //! How a key is hashed, and its bucket.
 //!
 //! The input chooses the numbers of keys, so their hash has secret keys. Keys of one number need no hash if their numbers
-//! are close together: with a bucket for each number from the least to the greatest, no two keys meet in one bucket. Rows
-//! mostly come in the order of such numbers, and then the buckets are visited in order, too.
+//! are close together: neighbours then have the same bucket or neighbouring ones, and a bucket has few keys. Rows mostly come
+//! in the order of such numbers, and then the buckets are visited in order, too.
 ghost use Rattle.std.specs.Prelude.{◌≡◌, ◌<◌, All};
 ghost use Rattle.row_join.specs.KeyTable.{bucket_of, hash_step, key_hash};
 
@@ -10,17 +10,13 @@ use keyed_hash::HashState;
 use row_core::Rows;
 use std::hash::RandomState;
 
-/// The number of buckets, for each row, that a table with a bucket for each number has at most (before it is rounded up to
-/// a power of two). A bucket takes 8 bytes.
-const BUCKETS_A_ROW: usize = 4;
-
 /// How keys are hashed.
 #[derive(Clone, Copy)]
 pub(crate) enum Hashing {
     /// With secret keys.
     Keyed(HashState),
-    /// Not at all: the hash of a key of one number is the number.
-    Direct,
+    /// For keys of one number: the hash is the number without this many of its lowest bits.
+    Close(u32),
 }
 
 /// Returns the hash of one number.
@@ -29,7 +25,7 @@ fn hash_step(hashing: Hashing, number: u64) -> u64
 {
     match hashing {
         Hashing::Keyed(state) => state.hash_of(&number.to_le_bytes()),
-        Hashing::Direct => number,
+        Hashing::Close(bits) => number >> bits.min(63),
     }
 }
 
@@ -53,7 +49,7 @@ pub(crate) fn bucket_of(hashing: Hashing, buckets: usize, numbers: &[u64]) -> us
     key_hash(hashing, numbers) as usize & (buckets - 1)
 }
 
-/// Returns the number of numbers from the least to the greatest that the rows bind the variable to.
+/// Returns the difference of the greatest and the least number that the rows bind the variable to.
 fn span_of(rows: &Rows, variable: usize) -> u64
     requires below { variable < rows.now.width }
 {
@@ -65,19 +61,30 @@ fn span_of(rows: &Rows, variable: usize) -> u64
             greatest = greatest.max(number);
         }
     }
-    greatest.saturating_sub(least).saturating_add(1)
+    greatest.saturating_sub(least)
 }
 
-/// Returns how to hash the keys of rows, and for how many buckets.
-pub(crate) fn hashing_of(state: RandomState, rows: &Rows, key: &[usize]) -> (Hashing, usize)
+/// Returns the hash of close numbers that makes about one bucket of use for each row: at most sixteen numbers have the same
+/// bucket, of a table with a bucket for each row. Returns None if the numbers are not close together.
+fn close_hashing(span: u64, rows: usize) -> Option<Hashing> {
+    match span.checked_div(rows as u64).unwrap_or(0) {
+        0..=1 => Some(Hashing::Close(0)),
+        2..=3 => Some(Hashing::Close(1)),
+        4..=7 => Some(Hashing::Close(2)),
+        8..=15 => Some(Hashing::Close(3)),
+        _ => None,
+    }
+}
+
+/// Returns how to hash the keys of rows.
+pub(crate) fn hashing_of(state: RandomState, rows: &Rows, key: &[usize]) -> Hashing
     requires below { All (λ v. v < rows.now.width) key.now }
 {
-    let most = rows.len().saturating_mul(BUCKETS_A_ROW);
     if key.len() == 1 {
-        let span = span_of(rows, key[0]) as usize;
-        if span <= most {
-            return (Hashing::Direct, span);
+        let span = span_of(rows, key[0]);
+        if let Some(hashing) = close_hashing(span, rows.len()) {
+            return hashing;
         }
     }
-    (Hashing::Keyed(HashState::new(state)), rows.len())
+    Hashing::Keyed(HashState::new(state))
 }

@@ -48,8 +48,8 @@ impl Keyed {
         requires below { All (λ v. v < rows.now.width) key.now }
         ensures table { IfOk result (λ keyed. IsTableOf key.now rows.now.rows keyed) }
     {
-        let (hashing, buckets) = hashing_of(state, rows, key);
-        let mut groups = Groups::new(alloc, hashing, key.len(), buckets)?;
+        let hashing = hashing_of(state, rows, key);
+        let mut groups = Groups::new(alloc, hashing, key.len(), rows.len())?;
         let mut apart = Vec::new(alloc);
         let mut numbers = Vec::new(alloc);
         let mut buffer = Vec::new(alloc);
