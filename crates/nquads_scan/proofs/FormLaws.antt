@@ -108,7 +108,7 @@ primary_left (c ∷ cs) h =
           (and_is (is_ascii_alphabetic c) (is_tag_tail cs) (alpha_is c p.0) (primary_left cs p.1))
     ]
 
-tag_is : (cs : List ℕ) → tag_left true true cs ≡ true → is_tag cs ≡ true
+pub tag_is : (cs : List ℕ) → tag_left true true cs ≡ true → is_tag cs ≡ true
 tag_is [] h = absurd (false_true h)
 tag_is (c ∷ cs) h =
     elim (which (eqb c 45)) [
@@ -127,7 +127,7 @@ hyphen_low c e = rw (eqb-true c 45 e) refl
 low_char : (c : ℕ) (b : Bool) → (is_ascii_lowercase c || (is_ascii_digit c && b)) ≡ true → to_ascii_lowercase c ≡ c
 low_char c b h = grind (arith, nat_tests)
 
-tag_lower : (primary fresh : Bool) (cs : List ℕ) → tag_left primary fresh cs ≡ true → map to_ascii_lowercase cs ≡ cs
+pub tag_lower : (primary fresh : Bool) (cs : List ℕ) → tag_left primary fresh cs ≡ true → map to_ascii_lowercase cs ≡ cs
 tag_lower primary fresh [] h = refl
 tag_lower primary fresh (c ∷ cs) h =
     elim (which (eqb c 45)) [

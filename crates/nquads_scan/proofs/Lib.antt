@@ -11,4 +11,5 @@ pub mod FormSteps
 pub mod FormLaws
 pub mod StringLaws
 pub mod PlainLaws
+pub mod RewritingSteps
 pub mod PlainLineSteps

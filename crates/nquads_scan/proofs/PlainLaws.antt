@@ -58,7 +58,7 @@ iri_form raw iri b h = form_of raw (Iri iri) (good_iri iri b.utf8 h) b.parts
 plain_byte : (b : ℕ) → is_string_char b ≡ true → escaped b ≡ b ∷ []
 plain_byte b h = grind (arith, nat_tests)
 
-plain_string : (bytes : List ℕ) → list_all is_string_char bytes ≡ true → flat_map escaped bytes ≡ bytes
+pub plain_string : (bytes : List ℕ) → list_all is_string_char bytes ≡ true → flat_map escaped bytes ≡ bytes
 plain_string [] h = refl
 plain_string (b ∷ bytes) h =
     let p = and_parts (is_string_char b) (list_all is_string_char bytes) h in
@@ -70,7 +70,7 @@ good_text bytes u = record { chars = chars bytes; scalars = scalars-chars bytes 
 literal_parts : (string more more' : List ℕ) → list_all is_string_char string ≡ true → more ≡ more' → 34 ∷ (string ++ 34 ∷ more) ≡ 34 ∷ (flat_map escaped string ++ 34 ∷ more')
 literal_parts string more more' h e = ap (λ (y : List ℕ). 34 ∷ (string ++ 34 ∷ y)) e ∙ ap (λ (y : List ℕ). 34 ∷ (y ++ 34 ∷ more')) (sym (plain_string string h))
 
-datatype_suffix : (datatype : List ℕ) → bytes_eq datatype xsd_string ≡ false → suffix datatype None ≡ 94 ∷ 94 ∷ 60 ∷ (datatype ++ 62 ∷ [])
+pub datatype_suffix : (datatype : List ℕ) → bytes_eq datatype xsd_string ≡ false → suffix datatype None ≡ 94 ∷ 94 ∷ 60 ∷ (datatype ++ 62 ∷ [])
 datatype_suffix datatype h = rw h refl
 
 pub literal_form : (raw string more : List ℕ) → IsPlainString raw string more → IsPlainSuffix more → HasForm raw raw
@@ -106,7 +106,7 @@ label_after text bytes label same l e f d u = record {
   utf8 = u;
 }
 
-first_then : (text : List ℕ) (b : ℕ) → 0 < b → get_or text 0 0 ≡ b → text ≡ b ∷ drop 1 text
+pub first_then : (text : List ℕ) (b : ℕ) → 0 < b → get_or text 0 0 ≡ b → text ≡ b ∷ drop 1 text
 first_then [] b p e = absurd (omega (arith, p, e))
 first_then (x ∷ text) b p e = ap (λ (y : ℕ). y ∷ text) e
 

@@ -19,7 +19,7 @@ none_of_four false false r s e = ap not e
 string_char : (c : ℕ) → is_sought 34 92 c ≡ false → is_string_char c ≡ true
 string_char c h = none_of_four (eqb c 34) (eqb c 92) (eqb c 10) (eqb c 13) h
 
-passed_take : (xs : List ℕ) (n : ℕ) → ((k : ℕ) → k < n → is_sought 34 92 (get_or xs k 0) ≡ false) → list_all is_string_char (take n xs) ≡ true
+pub passed_take : (xs : List ℕ) (n : ℕ) → ((k : ℕ) → k < n → is_sought 34 92 (get_or xs k 0) ≡ false) → list_all is_string_char (take n xs) ≡ true
 passed_take xs zero h = refl
 passed_take [] (suc n) h = refl
 passed_take (b ∷ xs) (suc n) h =

@@ -1,9 +1,13 @@
 //! The canonical text of a term: its N-Quads form.
 
-ghost use Rattle.std.specs.Prelude.{◌≡◌, IfOk, OnErr};
+ghost use Rattle.std.specs.Prelude.{◌≡◌, false, IfOk, OnErr};
+ghost use Rattle.rdf_core.specs.declared.term.Term.{Term};
+ghost use Rattle.nquads_core.specs.Slices.{Denotes};
 ghost use Rattle.nquads_scan.specs.Canonical.{IsComplete, IsFound};
+ghost use Rattle.nquads_scan.specs.Rewriting.{IsPut};
 
 use crate::plain::is_plain_form;
+use crate::rewriting::rewrite;
 use nquads_core::read_term;
 use rdf_core::write_term;
 use std::alloc::{AllocError, Global};
@@ -15,6 +19,22 @@ pub enum Form {
     Same,
     /// The slice is another text.
     Other,
+}
+
+/// Appends the canonical text of the term that a slice denotes. Returns `false` if it denotes no term, and appends nothing.
+fn put_canonical(alloc: Global, raw: &str, out: &mut Vec<u8>) -> Result<bool, AllocError>
+    ensures put { IfOk result (IsPut raw.now out.old.items out.new.items) }
+    ensures complete { IfOk result (λ put. put ≡ false → (t : Term) → Denotes raw.now t → ⊥) }
+    ensures err { OnErr result (out.new.items ≡ out.old.items) }
+{
+    if rewrite(raw, out)? {
+        return Ok(true);
+    }
+    let Some(term) = read_term(alloc, raw)? else {
+        return Ok(false);
+    };
+    write_term(&term, out)?;
+    Ok(true)
 }
 
 /// Finds the canonical text of the term that a slice denotes: its N-Quads form, as `write_term` of rdf_core writes it.
@@ -32,11 +52,10 @@ pub fn canonical(alloc: Global, raw: &str, out: &mut Vec<u8>) -> Result<Option<F
     if is_plain_form(raw) {
         return Ok(Some(Form::Same));
     }
-    let Some(term) = read_term(alloc, raw)? else {
-        return Ok(None);
-    };
     let start = out.len();
-    write_term(&term, out)?;
+    if !put_canonical(alloc, raw, out)? {
+        return Ok(None);
+    }
     if &out[start..] == raw.as_bytes() {
         out.truncate(start);
         return Ok(Some(Form::Same));

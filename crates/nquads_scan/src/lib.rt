@@ -9,7 +9,7 @@
 //! of this project: the one that `write_term` of rdf_core writes.
 //!
 //! Reading order: `search`, `ends` (where a slice ends), `blanks` (what is between slices), `statement` (a line), `pieces`,
-//! `checks`, `plain`, `canonical_text`, `plain_lines`.
+//! `checks`, `plain`, `rewriting`, `canonical_text`, `plain_lines`.
 #![tactic(auto)]
 
 mod blanks;
@@ -19,6 +19,7 @@ mod ends;
 mod pieces;
 mod plain;
 mod plain_lines;
+mod rewriting;
 mod search;
 mod statement;
 

@@ -79,7 +79,7 @@ fn cut_string(text: &str) -> Option<(&str, &str)>
 
 /// Returns whether the text after a closing quote is as in the canonical text: nothing, a language tag in lower case,
 /// or a datatype other than xsd:string.
-fn is_plain_suffix(suffix: &str) -> bool
+pub fn is_plain_suffix(suffix: &str) -> bool
     ensures { result ≡ true → IsPlainSuffix suffix.now }
 {
     let bytes = suffix.as_bytes();
