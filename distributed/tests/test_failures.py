@@ -1,4 +1,5 @@
 """What fails: files, queries, the program, and workers."""
+import argparse
 import gzip
 import json
 import os
@@ -9,6 +10,10 @@ import threading
 import unittest
 from typing import Any
 from unittest import mock
+
+import fsspec
+from distributed import Client
+from fsspec.implementations.local import LocalFileSystem
 
 import testing
 from testing import SCRIPT, file, script, spq, spq_dask
@@ -22,6 +27,14 @@ def outcome(*words: Any, **options: Any) -> tuple:
         return spq_dask(*words, **options)
     except BaseException as error:
         return (repr(error),)
+
+
+class Here(LocalFileSystem):
+    """A file system that the workers do not have."""
+
+    @classmethod
+    def _strip_protocol(cls, path: str) -> str:
+        return super()._strip_protocol(path.removeprefix("here://"))
 
 
 class Files(unittest.TestCase):
@@ -58,6 +71,12 @@ class Files(unittest.TestCase):
     def test_is_of_no_protocol(self):
         for url in ["nowhere://x/y.nq", "http://127.0.0.1:9/x.nq"]:
             self.assertEqual(spq_dask(["check"], url)[:2], (5, b"error: input\n"))
+
+    def test_is_of_a_protocol_that_workers_lack(self):
+        fsspec.register_implementation("here", Here)
+        status, said, told = spq_dask(["check"], "here://" + file(TEXT))
+        self.assertEqual((status, said), (5, b"error: input\n"))
+        self.assertRegex(told, f"^spq-dask: {socket.gethostname()}: /.*document.nq: ModuleNotFoundError: .*\n$")
 
     def test_cannot_be_unpacked(self):
         status, said, told = spq_dask(["check"], file(b"x", "x.nq.zst"))
@@ -171,25 +190,52 @@ class Output(unittest.TestCase):
             self.assertRegex(ran.stderr, rb"^spq-dask: .*\n$")
 
 
-class Scheduler(unittest.TestCase):
-    def test_dies(self):
-        """The scheduler dies while a command runs."""
+class Gone(unittest.TestCase):
+    """A cluster of its own, with one worker, that ends."""
+
+    def setUp(self):
         place = os.path.join(os.path.dirname(file(b"")), "scheduler.json")
-        scheduler = testing.start_scheduler(place)
+        self.scheduler = testing.start_scheduler(place)
+        self.addCleanup(self.scheduler.kill)
         testing.wait_for(lambda: os.path.exists(place) and os.path.getsize(place) > 0)
         with open(place) as source:
-            address = json.load(source)["address"]
-        testing.start_worker(address)
+            self.address = json.load(source)["address"]
+        self.worker = testing.start_worker(self.address)
+        self.addCleanup(self.worker.kill)
+        with Client(self.address, set_as_default=False) as client:
+            client.wait_for_workers(1, timeout=60)
+
+    def during_a_run(self, process: subprocess.Popen) -> None:
+        """Kills a process while a command runs, which ends with one line."""
         started = file(b"", "started")
         slow = script(f'[ "$1" = split ] || exec "$PART" "$@"; echo >> {started}; sleep 30; exec "$PART" "$@"')
         program = os.path.join(testing.ROOT, "distributed", "spq-dask")
-        words = [program, "check", "--quiet", "--scheduler", address, "--spq", testing.SPQ, "--spq-part", slow, file(TEXT)]
+        words = [program, "check", "--quiet", "--wait", "4", "--scheduler", self.address, "--spq", testing.SPQ, "--spq-part", slow, file(TEXT)]
         ran = subprocess.Popen(words, stdout=subprocess.PIPE, stderr=subprocess.PIPE)
         testing.wait_for(lambda: os.path.getsize(started) > 0, 60)
-        scheduler.kill()
+        process.kill()
         said, told = ran.communicate(timeout=90)
         self.assertEqual((ran.returncode, said), (4, b"error: worker\n"), told)
-        self.assertRegex(told, rf"^spq-dask: .*{address}.*\n$".encode())
+        self.assertRegex(told, rf"^spq-dask: .*{self.address}.*\n$".encode())
+
+    def test_scheduler(self):
+        self.during_a_run(self.scheduler)
+
+    def test_worker(self):
+        self.during_a_run(self.worker)
+
+    def test_worker_with_a_result(self):
+        """The worker stops and then dies while its result is fetched."""
+        with Client(self.address, set_as_default=False) as client, mock.patch.object(SCRIPT.Run, "compared"):
+            run = SCRIPT.Run(client, argparse.Namespace(wait=4, spq="", spq_part="", workers=1))
+            [result] = run.start(bytes, [50_000_000])
+            run.finish([result])
+            self.worker.send_signal(signal.SIGSTOP)
+            threading.Timer(2, self.worker.kill).start()
+            with self.assertRaises(SCRIPT.Failed) as raised:
+                run.results([result])
+        self.assertEqual(raised.exception.line, "worker")
+        self.assertIn("no worker for 4 seconds", raised.exception.reason)
 
 
 class Workers(unittest.TestCase):

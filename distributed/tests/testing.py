@@ -32,6 +32,7 @@ def loaded(path: str) -> ModuleType:
 
 
 SCRIPT = loaded(os.path.join(ROOT, "distributed", "spq-dask"))
+SCRIPT.connected = lambda given: contextlib.nullcontext(CLIENT)
 
 
 def start(*words: str) -> subprocess.Popen:
@@ -59,10 +60,10 @@ def environment() -> dict[str, str]:
     return dict(os.environ, PATH=place + os.pathsep + os.environ["PATH"], DASK_SCHEDULER_ADDRESS=ADDRESS)
 
 
-def start_worker(address: str = "") -> None:
+def start_worker(address: str = "") -> subprocess.Popen:
     """Starts a worker with one thread, which is not started again if it dies."""
-    start("distributed.cli.dask_worker", address or ADDRESS, "--host", "127.0.0.1", "--nthreads", "1", "--no-nanny",
-          "--memory-limit", "1GiB", "--no-dashboard", "--local-directory", FOLDER)
+    return start("distributed.cli.dask_worker", address or ADDRESS, "--host", "127.0.0.1", "--nthreads", "1", "--no-nanny",
+                 "--memory-limit", "1GiB", "--no-dashboard", "--local-directory", FOLDER)
 
 
 @contextlib.contextmanager
@@ -128,7 +129,7 @@ def spq_dask(words: Sequence[str], *files: str, program: Optional[str] = None, p
     out, told = io.BytesIO(), io.StringIO()
     with contextlib.redirect_stderr(told):
         programs = ["--spq", program or SPQ, "--spq-part", part or PART]
-        status = SCRIPT.run_words([words[0], "--quiet", *programs, *words[1:], *files], out, CLIENT)
+        status = SCRIPT.run_words([words[0], "--quiet", *programs, *words[1:], *files], out)
     return status, out.getvalue(), told.getvalue()
 
 
