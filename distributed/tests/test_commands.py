@@ -165,7 +165,7 @@ class Forms(unittest.TestCase):
             with mock.patch.multiple(SCRIPT, **few):
                 for words, options in commands:
                     with self.subTest(words=words, least=least, most=most):
-                        self.assertEqual(spq_dask([*words, *options, "--blocksize", "100"], file(self.TEXT))[:2], spq(words, self.TEXT))
+                        self.assertEqual(spq_dask([*words, *options, "--blocksize", "100"], file(self.TEXT)), (*spq(words, self.TEXT), ""))
                 for words in [["check"], ["terms"]]:
                     bad = file(self.TEXT), file(self.TEXT[:1000].rpartition(b"\n")[0] + b"\nx\n"), file(self.TEXT)
                     status, said, told = spq_dask([*words, "--blocksize", "100"], *bad)
