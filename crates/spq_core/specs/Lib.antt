@@ -8,3 +8,4 @@ pub mod Run
 pub mod Composing
 pub mod Words
 pub mod Causes
+pub mod Ran

@@ -2,7 +2,6 @@
 
 use dataset_load::{LoadNotes, Store};
 use expression_errors::ErrorCounts;
-use piece_pool::PoolFault;
 use query_notes::{Outline, counts_of, outline_of};
 use sparql_algebra::Plan;
 use spq_run::{Notes, Progress, Stage};
@@ -51,13 +50,6 @@ impl<'p, P: Progress> Log<'p, P> {
     /// Returns the progress that the log calls.
     pub(crate) fn progress(&self) -> &'p P {
         self.progress
-    }
-
-    /// Tells the progress that a call has failed.
-    pub(crate) fn failed(&self, cause: PoolFault)
-        ensures known { P.fails cause }
-    {
-        self.progress.failed(cause);
     }
 
     /// Notes that a stage begins.

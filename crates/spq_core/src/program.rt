@@ -232,14 +232,8 @@ fn selected_by<R: Threads + Wait + RandomSource, S: Source, P: Progress>(
             mem::forget(dict);
             Ok(blocks)
         }
-        Err(EvalFault::WorkerRefused) => {
-            log.failed(PoolFault::WorkerRefused);
-            Err(RunFault::WorkerRefused)
-        }
-        Err(EvalFault::Memory) => {
-            log.failed(PoolFault::Memory);
-            Err(RunFault::Memory)
-        }
+        Err(EvalFault::WorkerRefused) => Err(run_fault(log.progress(), Fault::WorkerRefused)),
+        Err(EvalFault::Memory) => Err(run_fault(log.progress(), Fault::Memory)),
     }
 }
 
@@ -288,10 +282,7 @@ fn checked<R: Threads + Wait + RandomSource, S: Source, P: Progress>(
     mem::forget(counted);
     match blocks {
         Ok(blocks) => Ok(blocks),
-        Err(_) => {
-            log.failed(PoolFault::Memory);
-            Err(RunFault::Memory)
-        }
+        Err(_) => Err(run_fault(log.progress(), Fault::Memory)),
     }
 }
 
@@ -315,10 +306,7 @@ fn listed<R: Threads + Wait + RandomSource, S: Source, P: Progress>(
     mem::forget(dict);
     match blocks {
         Ok(blocks) => Ok(blocks),
-        Err(_) => {
-            log.failed(PoolFault::Memory);
-            Err(RunFault::Memory)
-        }
+        Err(_) => Err(run_fault(log.progress(), Fault::Memory)),
     }
 }
 

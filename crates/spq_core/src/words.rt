@@ -4,6 +4,7 @@ ghost use Rattle.std.specs.Prelude.{◌≡◌, ◌⊎◌, ◌+◌, ◌*◌, ◌-
 ghost use Rattle.spq_core.specs.Causes.{IsRunCaused};
 ghost use Rattle.spq_core.specs.QueryStack.{least_stack, stack_per_byte};
 ghost use Rattle.spq_core.specs.Output.{request_of, select};
+ghost use Rattle.spq_core.specs.Ran.{IsRan};
 ghost use Rattle.spq_core.specs.Run.{IsAnswerable, IsByOneWorker, IsRun};
 ghost use Rattle.spq_core.specs.Words.{IsDoneAlone, IsNotRun, IsRunOf};
 ghost use Rattle.spq_run.specs.declared.fault.RunFault.TheVariants.{WorkerRefused};
@@ -71,11 +72,8 @@ struct RunOver<S, K, P> {
 }
 
 impl<S: Source, K: Sink, P: Progress> Promise<Ran<S, K>> for RunOver<S, K, P> {
-    ghost kept_by = { λ p ran. IsRun S.left S.failures K.held K.failures K.write_gives
-        (request_of p.command.value) p.reader.value ran.reader p.writer.value ran.writer ran.done
-        × (IsByOneWorker p.command.value
-        → ran.done ≡ Err WorkerRefused → ran.reader ≡ p.reader.value)
-        × IfErr ran.done (IsRunCaused P.fails (S.left p.reader.value)) };
+    ghost kept_by = { λ p ran. IsRan S.left S.failures K.held K.failures K.write_gives P.fails
+        p.command.value p.reader.value p.writer.value ran };
 }
 
 /// What a run borrows: the runtime, the allocator, its command, and the progress that it calls.
@@ -100,11 +98,8 @@ fn run_here<R: Threads + Wait + RandomSource, S: Source, K: Sink, P: Progress>(
     reader: S,
     writer: K,
 ) -> Ran<S, K>
-    ensures run { IsRun S.left S.failures K.held K.failures K.write_gives
-        (request_of setting.now.command.now) reader result.reader writer result.writer result.done }
-    ensures unread { IsByOneWorker setting.now.command.now
-        → result.done ≡ Err WorkerRefused → result.reader ≡ reader }
-    ensures cause { IfErr result.done (IsRunCaused P.fails (S.left reader)) }
+    ensures ran { IsRan S.left S.failures K.held K.failures K.write_gives P.fails
+        setting.now.command.now reader writer result }
     ensures one_worker { IsByOneWorker setting.now.command.now
         → result.done ≡ Err WorkerRefused → ⊥ }
 {
@@ -133,11 +128,8 @@ fn run_if_started<R: Threads + Wait + RandomSource, S: Source, K: Sink, P: Progr
     reader: S,
     writer: K,
 ) -> Ran<S, K>
-    ensures run { IsRun S.left S.failures K.held K.failures K.write_gives
-        (request_of setting.now.command.now) reader result.reader writer result.writer result.done }
-    ensures unread { IsByOneWorker setting.now.command.now
-        → result.done ≡ Err WorkerRefused → result.reader ≡ reader }
-    ensures cause { IfErr result.done (IsRunCaused P.fails (S.left reader)) }
+    ensures ran { IsRan S.left S.failures K.held K.failures K.write_gives P.fails
+        setting.now.command.now reader writer result }
 {
     if not_started.load(Ordering::SeqCst) {
         setting.progress.failed(PoolFault::WorkerRefused);
@@ -168,11 +160,8 @@ fn start_and_join<
     reader: S,
     writer: K,
 ) -> Ran<S, K>
-    ensures run { IsRun S.left S.failures K.held K.failures K.write_gives
-        (request_of setting.now.command.now) reader result.reader writer result.writer result.done }
-    ensures unread { IsByOneWorker setting.now.command.now
-        → result.done ≡ Err WorkerRefused → result.reader ≡ reader }
-    ensures cause { IfErr result.done (IsRunCaused P.fails (S.left reader)) }
+    ensures ran { IsRan S.left S.failures K.held K.failures K.write_gives P.fails
+        setting.now.command.now reader writer result }
 {
     let promise: RunOver<S, K, P> = RunOver {
         command: Snapshot::of(setting.command),
@@ -198,11 +187,8 @@ fn run_apart<
     K: Sink + Send + Drop,
     P: Progress + Sync,
 >(setting: &Setting<'_, R, P>, stack: usize, reader: S, writer: K) -> Ran<S, K>
-    ensures run { IsRun S.left S.failures K.held K.failures K.write_gives
-        (request_of setting.now.command.now) reader result.reader writer result.writer result.done }
-    ensures unread { IsByOneWorker setting.now.command.now
-        → result.done ≡ Err WorkerRefused → result.reader ≡ reader }
-    ensures cause { IfErr result.done (IsRunCaused P.fails (S.left reader)) }
+    ensures ran { IsRan S.left S.failures K.held K.failures K.write_gives P.fails
+        setting.now.command.now reader writer result }
 {
     let not_started = AtomicBool::new(false);
     let not_started = &not_started;
@@ -210,12 +196,8 @@ fn run_apart<
         thread::scope_env(),
         setting.rt,
         move |scope| -> Ran<S, K>
-            ensures run { IsRun S.left S.failures K.held K.failures K.write_gives
-                (request_of setting.entry.now.command.now) reader result.reader writer
-                result.writer result.done }
-            ensures unread { IsByOneWorker setting.entry.now.command.now
-                → result.done ≡ Err WorkerRefused → result.reader ≡ reader }
-            ensures cause { IfErr result.done (IsRunCaused P.fails (S.left reader)) }
+            ensures ran { IsRan S.left S.failures K.held K.failures K.write_gives P.fails
+                setting.entry.now.command.now reader writer result }
         { start_and_join(setting, scope, stack, not_started, reader, writer) },
     )
 }
@@ -248,12 +230,9 @@ fn run_command<
     K: Sink + Send + Drop,
     P: Progress + Sync,
 >(setting: &Setting<'_, R, P>, reader: S, writer: K) -> Ran<S, K>
-    ensures run { IsRun S.left S.failures K.held K.failures K.write_gives
-        (request_of setting.now.command.now) reader result.reader writer result.writer result.done }
+    ensures ran { IsRan S.left S.failures K.held K.failures K.write_gives P.fails
+        setting.now.command.now reader writer result }
     ensures alone { IsDoneAlone setting.now.command.now → result.done ≡ Err WorkerRefused → ⊥ }
-    ensures unread { IsByOneWorker setting.now.command.now
-        → result.done ≡ Err WorkerRefused → result.reader ≡ reader }
-    ensures cause { IfErr result.done (IsRunCaused P.fails (S.left reader)) }
     ensures answerable { result.done ≡ Err WorkerRefused
         → IsAnswerable (request_of setting.now.command.now) }
 {

@@ -16,7 +16,11 @@ pub returns-in-Ok-clause-composing : goal.returns-in-Ok-clause-composing
 returns-in-Ok-clause-composing g c = counted g.S.Source.left g.S.Source.failures _ _ _ c.in_ok-counted.counted c.in_ok-counted.ensures.loading (Ok c.in-Ok.blocks) c.in-Ok.ensures.text tt
 
 pub returns-in-Err-clause-composing : goal.returns-in-Err-clause-composing
-returns-in-Err-clause-composing g c = counted g.S.Source.left g.S.Source.failures _ _ _ c.in_ok-counted.counted c.in_ok-counted.ensures.loading (Err Memory) tt refl
+returns-in-Err-clause-composing g c =
+    rw c.run_fault.ensures.same (counted g.S.Source.left g.S.Source.failures _ _ _ c.in_ok-counted.counted c.in_ok-counted.ensures.loading (Err Memory) tt refl)
+
+pub returns-in-Err-clause-cause : goal.returns-in-Err-clause-cause
+returns-in-Err-clause-cause g c = c.run_fault.ensures.cause (g.S.Source.left c.args.reader.now)
 
 pub returns-in_err-counted-clause-cause : goal.returns-in_err-counted-clause-cause
 returns-in_err-counted-clause-cause g c =

@@ -23,7 +23,13 @@ returns-in-Ok-clause-composing g c =
 pub returns-in-Err-Memory-clause-composing : goal.returns-in-Err-Memory-clause-composing
 returns-in-Err-Memory-clause-composing g c =
     let query = query_of c.args.valid.now.query.now in
-    loaded g.S.Source.left g.S.Source.failures IsLoadedFrom (select c.args.valid.now.text.now) _ _ _ c.in_ok-store.store (query, c.requires.valid) (part_loaded _ _ c.in_ok-store.store c.in_ok-store.ensures.loading.loaded) c.in_ok-store.ensures.loading (Err Memory) tt refl
+    rw c.run_fault-in-Err-Memory.ensures.same (loaded g.S.Source.left g.S.Source.failures IsLoadedFrom (select c.args.valid.now.text.now) _ _ _ c.in_ok-store.store (query, c.requires.valid) (part_loaded _ _ c.in_ok-store.store c.in_ok-store.ensures.loading.loaded) c.in_ok-store.ensures.loading (Err Memory) tt refl)
+
+pub returns-in-Err-Memory-clause-cause : goal.returns-in-Err-Memory-clause-cause
+returns-in-Err-Memory-clause-cause g c = c.run_fault-in-Err-Memory.ensures.cause (g.S.Source.left c.args.reader.now)
+
+pub returns-in-Err-WorkerRefused-clause-cause : goal.returns-in-Err-WorkerRefused-clause-cause
+returns-in-Err-WorkerRefused-clause-cause g c = c.run_fault.ensures.cause (g.S.Source.left c.args.reader.now)
 
 pub returns-in_err-store-clause-cause : goal.returns-in_err-store-clause-cause
 returns-in_err-store-clause-cause g c =

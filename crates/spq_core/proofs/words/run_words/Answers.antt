@@ -5,8 +5,8 @@ pub returns-in-Ok-clause-run : goal.returns-in-Ok-clause-run
 returns-in-Ok-clause-run g c = inl (record {
   command = c.in-Ok.command;
   command_line = c.in-Ok.ensures.ok;
-  run = c.run_command.ensures.run;
+  run = c.run_command.ensures.ran.run;
   alone = c.run_command.ensures.alone;
-  unread = c.run_command.ensures.unread;
+  unread = c.run_command.ensures.ran.unread;
   answerable = c.run_command.ensures.answerable;
 })
