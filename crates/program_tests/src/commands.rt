@@ -50,14 +50,14 @@ no message
 /// The help and the version.
 const HELP: &str = "
 spq --help
-Answers SPARQL SELECT queries over an N-Quads document, which comes on standard input.
+Evaluates SPARQL SELECT queries over an N-Quads document from standard input.
 Usage: spq select --query TEXT [--rows N] [--workers N] [--piece BYTES] < FILE
 spq check [--workers N] [--piece BYTES] < FILE
 spq terms [--workers N] [--piece BYTES] < FILE
 Limits:
-Brackets of a query are nested 100 deep at the most.
+Brackets of a query are nested at most 100 deep.
 Exit status:
-3  the command line is none of the above, or asks for help or the version
+3  the command line is not valid, or requests the help or the version
 Examples:
 
 spq -h
@@ -69,12 +69,12 @@ Usage: spq select --query TEXT
 Exit status:
 
 spq check --help
-Count the quads, terms and graph names, or name the first malformed line
+Count the distinct quads, terms and named graphs, or name the first malformed line
 Worker threads, 1 to 64 [default: 4]
 Least size of a block of input, 1 to 1073741824 [default: 65536]
 
 spq help select
-Answer a SELECT query, as SPARQL 1.1 Query Results JSON
+Evaluate a SELECT query, and write SPARQL 1.1 Query Results JSON
 --query <TEXT>
 Most rows of a task, 1 to 1073741824 [default: 1024]
 
