@@ -5,7 +5,6 @@ use Rattle.std.specs.Char.{digit_value, IsScalar}
 use Rattle.std.proofs.lemmas.Bool.{cases_lt}
 use Rattle.std.proofs.lemmas.Bool.Decides.{nat_tests}
 use Rattle.std.proofs.lemmas.Option.{some_pair_parts}
-use lib.Utf8.{scalar}
 use Rattle.rdf_core.specs.Characters.{all_pass, in_ranges, is_hex}
 use Rattle.rdf_core.specs.LexicalReading.{hex_at}
 use Rattle.rdf_core.proofs.EscapeSteps.{cond_is}
@@ -20,11 +19,11 @@ pub head_step : (k a : ℕ) → 0 < k → head (k - 1) (a / 16) ≡ head k a
 head_step zero a h = absurd (omega arith)
 head_step (suc k) a h = let e : suc k - 1 ≡ k = omega arith in rw e refl
 
-head_le : (k a b : ℕ) → a ≤ b → head k a ≤ head k b
+pub head_le : (k a b : ℕ) → a ≤ b → head k a ≤ head k b
 head_le zero a b h = h
 head_le (suc k) a b h = head_le k (a / 16) (b / 16) (omega arith)
 
-head_small : (k a : ℕ) → head k a ≤ a
+pub head_small : (k a : ℕ) → head k a ≤ a
 head_small zero a = omega arith
 head_small (suc k) a = omega (arith, head_small k (a / 16))
 

@@ -1,11 +1,12 @@
 -- A beginning of a line that is read, and the exact place after it.
-use Rattle.std.proofs.Common.{◌≡◌, ℕ, ◌+◌, ◌<◌, ◌≤◌, true, false, eqb, List, [], ◌∷◌, ◌++◌, length, take, drop, slice_index, refl, sym, ap, subst, ◌∙◌, inl, inr, ◌⊎◌, arith, append_assoc, length-append}
+use Rattle.std.proofs.Common.{◌≡◌, ℕ, ◌+◌, ◌<◌, ◌≤◌, true, false, eqb, List, [], ◌∷◌, ◌++◌, length, take, drop, slice_index, Option, Some, None, refl, sym, ap, subst, ◌∙◌, inl, inr, ◌⊎◌, arith, append_assoc, length-append}
+use Rattle.std.specs.Prelude.{MatchOption}
 use Rattle.std.specs.Str.{IsUtf8, IsValidUpTo, NonePass, all_scalars, chars, encode_utf8_all}
 use lib.Utf8.{scalar, encode}
 use Rattle.std.proofs.lemmas.Bool.{cases_lt, eqb-true}
 use Rattle.std.proofs.lemmas.List.{length-take-le, take-append-le, take-append-drop, get_or-append-add}
 use Rattle.std.proofs.lemmas.Str.{NoCharPasses-byte, chars-append, chars-encodes, encode_ascii, encodes-append, encodes-chars, length-encode, len_utf8_bounds, scalars-chars}
-use Rattle.std.proofs.Math.Seq.{take-append_seam}
+use Rattle.std.proofs.Math.Seq.{take-append_seam, drop-append_seam, drop-length}
 use Rattle.rdf_core.proofs.EscapeSteps.{which}
 use Rattle.rdf_core.proofs.EscapeLaws.{and_is, and_parts}
 use Rattle.nquads_core.specs.LineParser.{line_at}
@@ -16,13 +17,18 @@ use Rattle.line_diagnosis.specs.declared.diagnosis.Counted.TheVariants.{Bytes, C
 use Rattle.line_diagnosis.specs.declared.diagnosis.Diagnosis.{Diagnosis}
 use Rattle.line_diagnosis.specs.declared.diagnosis.Walk.{Walk}
 use Rattle.line_diagnosis.specs.declared.reason.Next.TheVariants as next
+use Rattle.line_diagnosis.specs.declared.reason.Reason.{Reason}
+use Rattle.line_diagnosis.specs.declared.reason.Reason.TheVariants.{InvalidUtf8, CutCharacter, ByteOrderMark, Utf16, Packed}
 use Rattle.line_diagnosis.specs.declared.state.State.{State}
 use Rattle.line_diagnosis.specs.declared.state.State.TheVariants as state
 use Rattle.line_diagnosis.specs.Column.{column_of}
 use Rattle.line_diagnosis.specs.Explained.{IsExplained}
-use Rattle.line_diagnosis.specs.Front.{IsLongestText, IsStateAfter, IsWalk, is_line_break}
+use Rattle.line_diagnosis.specs.Front.{IsFirstReason, IsLongestText, IsStopped, IsTextEnd, IsWalk}
+use Rattle.line_diagnosis.specs.StateAfter.{IsStateAfter, is_line_break}
 use Rattle.line_diagnosis.specs.Place.{IsPlace, IsLinePrefix, IsWellFormed}
+use Rattle.line_diagnosis.specs.Reasons.{IsBroken, IsReason, IsTextReason}
 use Rattle.line_diagnosis.specs.Rest.{Accepts, IsStep}
+use Rattle.line_diagnosis.specs.Says.{Says}
 use Rattle.line_diagnosis.specs.Turn.{part, Completes}
 use Rattle.line_diagnosis.proofs.LineTurns.{line_completes, line_read}
 use Rattle.line_diagnosis.proofs.LiveLaws.{live}
@@ -164,9 +170,15 @@ front_length text rest s u f =
 first_same : (a b : ℕ) (xs ys : List ℕ) → ◌≡◌ {A = List ℕ} (a ∷ xs) (b ∷ ys) → a ≡ b
 first_same a b xs ys e = cc
 
-pub walk_stops : (text rest new : List ℕ) (c : ℕ) (w : Walk) → IsUtf8 text → chars rest ≡ c ∷ chars new → (f : IsFront text rest w.state) → w.offset + length rest ≡ length text
-    → ((cs : List ℕ) → NonePass is_line_break (c ∷ cs) → Accepts w.state (c ∷ cs) → ⊥) → IsWalk text w
-walk_stops text rest new c w u e f o n = record {
+stopped_at : (s : State) (c : ℕ) (others back : List ℕ) (o : Option Reason) (r : Reason) → o ≡ Some r → back ≡ c ∷ others → Says s (Some c) r → IsStopped s back o
+stopped_at s c others back o r e h k = subst (IsStopped s back) (sym e) (c, others, h, k)
+
+stopped_never : (s : State) (back : List ℕ) (o : Option Reason) → o ≡ None → back ≡ [] → IsStopped s back o
+stopped_never s back o e h = subst (IsStopped s back) (sym e) h
+
+pub walk_stops : (text rest new : List ℕ) (c : ℕ) (w : Walk) (r : Reason) → IsUtf8 text → chars rest ≡ c ∷ chars new → (f : IsFront text rest w.state) → w.offset + length rest ≡ length text
+    → w.reason ≡ Some r → Says w.state (Some c) r → ((cs : List ℕ) → NonePass is_line_break (c ∷ cs) → Accepts w.state (c ∷ cs) → ⊥) → IsWalk text w
+walk_stops text rest new c w r u e f o x y n = record {
   front = f.front;
   back = chars rest;
   parts = f.parts;
@@ -174,14 +186,15 @@ walk_stops text rest new c w u e f o n = record {
   after = f.after;
   stops = λ d others cs k p g.
       let same = first_same d c others (chars new) (sym k ∙ e) in
-      n cs (subst (λ (x : ℕ). NonePass is_line_break (x ∷ cs)) same p) (subst (λ (x : ℕ). Accepts w.state (x ∷ cs)) same g);
+      n cs (subst (λ (z : ℕ). NonePass is_line_break (z ∷ cs)) same p) (subst (λ (z : ℕ). Accepts w.state (z ∷ cs)) same g);
+  stopped = stopped_at w.state c (chars new) (chars rest) w.reason r x e y;
 }
 
 no_first : (d : ℕ) (others : List ℕ) → ◌≡◌ {A = List ℕ} [] (d ∷ others) → ⊥
 no_first d others e = cc
 
-pub walk_ends : (text rest : List ℕ) (w : Walk) → IsUtf8 text → chars rest ≡ [] → (f : IsFront text rest w.state) → w.offset ≡ length text → IsWalk text w
-walk_ends text rest w u e f o =
+pub walk_ends : (text rest : List ℕ) (w : Walk) → IsUtf8 text → chars rest ≡ [] → (f : IsFront text rest w.state) → w.offset ≡ length text → w.reason ≡ None → IsWalk text w
+walk_ends text rest w u e f o x =
     let empty : length rest ≡ 0 = ap length (sym (encodes-chars rest f.utf8)) ∙ ap (λ (y : List ℕ). length (encode_utf8_all y)) e in
     record {
       front = f.front;
@@ -190,6 +203,7 @@ walk_ends text rest w u e f o =
       offset = omega (arith, front_length text rest w.state u f);
       after = f.after;
       stops = λ d others cs k p g. no_first d others (sym e ∙ k);
+      stopped = stopped_never w.state (chars rest) w.reason x e;
     }
 
 -- ---- the exact place
@@ -272,13 +286,86 @@ front_of line text n v e =
       longest = λ m h k u. v.longest m (omega (arith, size, h)) u;
     }
 
-pub explained_of : (line text front : List ℕ) (w : Walk) (d : Diagnosis) → IsLongestText line text → IsWalk text w → front ≡ take w.offset line → d.offset ≡ length front
+-- ---- the reason
+
+-- what a reason of text says is a reason of the line
+text_reason : (line : List ℕ) (offset : ℕ) (r : Reason) → IsTextReason line offset r → IsReason line offset r
+text_reason line offset (InvalidUtf8 byte) t = absurd t.says
+text_reason line offset CutCharacter t = absurd t.says
+text_reason line offset ByteOrderMark t = absurd t.says
+text_reason line offset Utf16 t = absurd t.says
+text_reason line offset (Packed packing) t = absurd t.says
+text_reason line offset _ t = t
+
+broken_reason : (line : List ℕ) (offset : ℕ) (r : Reason) → IsBroken line offset r → IsReason line offset r
+broken_reason line offset (InvalidUtf8 byte) b = b
+broken_reason line offset CutCharacter b = b
+broken_reason line offset _ b = absurd b
+
+-- the line, split at the place
+record Split (line text : List ℕ) (w : Walk) (k : IsWalk text w) : Type 0 where
+  rest : List ℕ
+  before : take w.offset line ≡ encode_utf8_all k.front
+  after : drop w.offset line ≡ encode_utf8_all k.back ++ rest
+
+split_at : (line text : List ℕ) (w : Walk) → IsLongestText line text → (k : IsWalk text w) → Split line text w k
+split_at line text w t k =
+    let front : List ℕ = encode_utf8_all k.front in
+    let parts : text ≡ front ++ encode_utf8_all k.back = front_text text k.front k.back t.utf8 k.parts in
+    let split : line ≡ front ++ (encode_utf8_all k.back ++ t.rest) = t.parts ∙ ap (λ (y : List ℕ). y ++ t.rest) parts ∙ append_assoc front (encode_utf8_all k.back) t.rest in
+    record {
+      rest = t.rest;
+      before = ap (λ (n : ℕ). take n line) k.offset ∙ ap (take (length front)) split ∙ take-append_seam front (encode_utf8_all k.back ++ t.rest);
+      after = ap (λ (n : ℕ). drop n line) k.offset ∙ ap (drop (length front)) split ∙ drop-append_seam front (encode_utf8_all k.back ++ t.rest);
+    }
+
+at_end : (line text : List ℕ) (w : Walk) → IsLongestText line text → (k : IsWalk text w) → k.back ≡ [] → w.offset ≡ length text
+at_end line text w t k e =
+    let parts : text ≡ encode_utf8_all k.front ++ encode_utf8_all k.back = front_text text k.front k.back t.utf8 k.parts in
+    omega (arith, k.offset, ap length parts, length-append (encode_utf8_all k.front) (encode_utf8_all k.back), ap (λ (y : List ℕ). length (encode_utf8_all y)) e)
+
+-- the reason, by that of the walk and that of the bytes after the text
+reason_by : (line text : List ℕ) (w : Walk) (t : IsLongestText line text) (k : IsWalk text w) (o broken : Option Reason) (r : Reason)
+    → IsStopped w.state k.back o → IsTextEnd line text broken → MatchOption o (MatchOption broken (Says w.state None r) (λ x. r ≡ x)) (λ x. r ≡ x) → IsReason line w.offset r
+reason_by line text w t k (Some x) broken r h b f =
+    let s = split_at line text w t k in
+    let here : drop w.offset line ≡ encode h.0 ++ (encode_utf8_all h.1 ++ s.rest) =
+    s.after ∙ ap (λ (y : List ℕ). encode_utf8_all y ++ s.rest) h.2 ∙ append_assoc (encode h.0) (encode_utf8_all h.1) s.rest in
+    subst (IsReason line w.offset) (sym f) (text_reason line w.offset x (record {
+      front = k.front;
+      before = s.before;
+      state = w.state;
+      after = k.after;
+      at = Some h.0;
+      follows = (encode_utf8_all h.1 ++ s.rest, here);
+      says = h.3;
+    }))
+reason_by line text w t k None (Some x) r h b f =
+    subst (IsReason line w.offset) (sym f) (broken_reason line w.offset x (subst (λ (n : ℕ). IsBroken line n x) (sym (at_end line text w t k h)) b))
+reason_by line text w t k None None r h b f =
+    let s = split_at line text w t k in
+    let whole : w.offset ≡ length line = at_end line text w t k h ∙ ap length b in
+    text_reason line w.offset r (record {
+      front = k.front;
+      before = s.before;
+      state = w.state;
+      after = k.after;
+      at = None;
+      follows = ap (λ (n : ℕ). drop n line) whole ∙ drop-length line;
+      says = f;
+    })
+
+pub walk_reason : (line text : List ℕ) (w : Walk) (broken : Option Reason) (r : Reason) → IsLongestText line text → IsTextEnd line text broken → IsWalk text w → IsFirstReason w broken r → IsReason line w.offset r
+walk_reason line text w broken r t b k f = reason_by line text w t k w.reason broken r k.stopped b f
+
+pub explained_of : (line text front : List ℕ) (w : Walk) (d : Diagnosis) → IsLongestText line text → IsWalk text w → IsReason line w.offset d.reason → front ≡ take w.offset line → d.offset ≡ length front
     → d.column ≡ column_of d.counted front → (d.counted ≡ Characters → IsUtf8 line) → (d.counted ≡ Bytes → IsUtf8 line → ⊥) → IsExplained line d
-explained_of line text front w d t k e o c u b =
+explained_of line text front w d t k r e o c u b =
     let p = walk_place line text w t k in
     let same : d.offset ≡ w.offset = o ∙ ap length e ∙ length-take-le w.offset line p.in_line in
     record {
       place = subst (IsPlace line) (sym same) p;
+      reason = subst (λ (n : ℕ). IsReason line n d.reason) (sym same) r;
       column = c ∙ ap (column_of d.counted) (e ∙ ap (λ (n : ℕ). take n line) (sym same));
       characters = u;
       bytes = b;

@@ -13,3 +13,4 @@ pub mod LiveLaws
 pub mod FrontLaws
 pub mod OpenLaws
 pub mod RangeLaws
+pub mod SaysLaws

@@ -22,7 +22,7 @@ use Rattle.line_diagnosis.specs.declared.state.Scheme.{Scheme}
 use Rattle.line_diagnosis.specs.declared.state.Scheme.TheVariants as scheme
 use Rattle.line_diagnosis.specs.declared.state.State.{State}
 use Rattle.line_diagnosis.specs.declared.state.State.TheVariants as state
-use Rattle.line_diagnosis.specs.Front.{is_line_break}
+use Rattle.line_diagnosis.specs.StateAfter.{is_line_break}
 use Rattle.line_diagnosis.specs.Turn.{Turn, part, suffix, after_dot, Completes, ended}
 use Rattle.line_diagnosis.specs.Rest.{Accepts, CanDenote, CanEnd, IsStep, RestOfDigits, RestOfIri, RestOfString, after, completes_scheme, may_come}
 use Rattle.line_diagnosis.proofs.SchemeLaws.{may_be}

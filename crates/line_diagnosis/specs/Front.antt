@@ -1,23 +1,18 @@
 -- How far a text is read. Only private clauses use these definitions; what is promised is in Place.
-use Rattle.std.specs.Prelude.{◌≡◌, ℕ, ◌<◌, ◌≤◌, Bool, ◌||◌, List, ◌∷◌, ◌++◌, length, take, ◌==◌}
+use Rattle.std.specs.Prelude.{◌≡◌, ℕ, ◌<◌, ◌≤◌, List, [], ◌∷◌, ◌++◌, length, take, Option, Some, None, MatchOption}
 use Rattle.std.specs.Str.{IsUtf8, NonePass, chars, encode_utf8_all}
 use Rattle.line_diagnosis.specs.declared.diagnosis.Walk.{Walk}
-use Rattle.line_diagnosis.specs.declared.reason.Next.TheVariants as next
+use Rattle.line_diagnosis.specs.declared.reason.Reason.{Reason}
 use Rattle.line_diagnosis.specs.declared.state.State.{State}
-use Rattle.line_diagnosis.specs.declared.state.State.TheVariants as state
-use Rattle.line_diagnosis.specs.Rest.{Accepts, CanEnd}
+use Rattle.line_diagnosis.specs.Reasons.{IsBroken}
+use Rattle.line_diagnosis.specs.Rest.{Accepts}
+use Rattle.line_diagnosis.specs.Says.{Says}
+use Rattle.line_diagnosis.specs.StateAfter.{IsStateAfter, is_line_break}
 
--- LF and CR, of which a line has none
-abbrev pub is_line_break : ℕ → Bool
-is_line_break c = c == 10 || c == 13
-
--- After these characters of a line the reader is in this state: the texts that complete the line
--- after them are those that the state accepts.
-pub record IsStateAfter (front : List ℕ) (s : State) : Type 0 where
-  pub plain : NonePass is_line_break front
-  pub forth : (cs : List ℕ) → Accepts (state.Between next.Subject) (front ++ cs) → Accepts s cs
-  pub back : (cs : List ℕ) → Accepts s cs → Accepts (state.Between next.Subject) (front ++ cs)
-  pub can_end : CanEnd s
+-- the reason is true of the state and of the first of these characters; without a reason there are none
+abbrev pub IsStopped : State → List ℕ → Option Reason → Type 0
+IsStopped s back reason = MatchOption reason (back ≡ [])
+    (λ r. (c : ℕ) × (others : List ℕ) × (back ≡ c ∷ others) × Says s (Some c) r)
 
 -- the text is read up to this place: no line goes on with the character after it
 pub record IsWalk (text : List ℕ) (walk : Walk) : Type 0 where
@@ -28,6 +23,7 @@ pub record IsWalk (text : List ℕ) (walk : Walk) : Type 0 where
   pub after : IsStateAfter front walk.state
   pub stops : (c : ℕ) (others cs : List ℕ)
       → back ≡ c ∷ others → NonePass is_line_break (c ∷ cs) → Accepts walk.state (c ∷ cs) → ⊥
+  pub stopped : IsStopped walk.state back walk.reason
 
 -- the longest beginning of the line that is UTF-8
 pub record IsLongestText (line text : List ℕ) : Type 0 where
@@ -35,3 +31,12 @@ pub record IsLongestText (line text : List ℕ) : Type 0 where
   pub parts : line ≡ text ++ rest
   pub utf8 : IsUtf8 text
   pub longest : (n : ℕ) → length text < n → n ≤ length line → IsUtf8 (take n line) → ⊥
+
+-- the text is the whole line, or the reason is true of the bytes after it
+abbrev pub IsTextEnd : List ℕ → List ℕ → Option Reason → Type 0
+IsTextEnd line text broken = MatchOption broken (text ≡ line) (IsBroken line (length text))
+
+-- The reason is that of the walk, or else that of the bytes after the text, or else it is true of the end of the line.
+abbrev pub IsFirstReason : Walk → Option Reason → Reason → Type 0
+IsFirstReason walk broken result = MatchOption walk.reason
+    (MatchOption broken (Says walk.state None result) (λ r. result ≡ r)) (λ r. result ≡ r)

@@ -3,6 +3,9 @@ pub mod Column
 pub mod Explained
 pub mod Turn
 pub mod Rest
+pub mod Says
+pub mod StateAfter
+pub mod Reasons
 pub mod Front
 pub mod Report
 pub mod Likeness

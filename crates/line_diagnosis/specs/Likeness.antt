@@ -1,9 +1,34 @@
--- What a malformed line looks like, for its hint (a choice of this project, not fixed by the standard). A line is a list
+-- What a malformed line looks like, for its reason and its hint (a choice of this project, not fixed by the standard). A line is a list
 -- of bytes.
-use Rattle.std.specs.Prelude.{ℕ, Bool, ◌&&◌, ◌||◌, not, true, false, List, take, drop, length, codes, ◌==◌, nat_eq, Option, Some, None}
+use Rattle.std.specs.Prelude.{ℕ, Bool, ◌&&◌, ◌||◌, not, true, false, List, [], ◌∷◌, take, drop, length, codes, ◌==◌, nat_eq, if◌then◌else◌, Option, Some, None}
 use Rattle.std.specs.Char.{is_ascii_alphanumeric, is_ascii_whitespace}
 use Rattle.std.specs.List.{prefix_len, slice_get, starts_with}
 use Rattle.std.specs.Str.{str_eq_ignore_ascii_case}
+use Rattle.line_diagnosis.specs.declared.reason.Packing.{Packing}
+use Rattle.line_diagnosis.specs.declared.reason.Packing.TheVariants.{Gzip, Xz, Zstd, Bzip2}
+
+-- the first bytes of a compressed file: RFC 1952, section 2.3.1; The .xz File Format, section 2.1.1.1, without its last byte;
+-- RFC 8878, section 3.1.1; the first bytes that bzip2 writes
+abbrev pub magic : Packing → List ℕ
+magic Gzip = 0x1F ∷ 0x8B ∷ []
+magic Xz = 0xFD ∷ codes "7zXZ"
+magic Zstd = 0x28 ∷ 0xB5 ∷ 0x2F ∷ 0xFD ∷ []
+magic Bzip2 = codes "BZh"
+
+-- the byte order mark in UTF-8 (The Unicode Standard, section 23.8)
+abbrev pub begins_with_mark : List ℕ → Bool
+begins_with_mark line = starts_with nat_eq line (0xEF ∷ 0xBB ∷ 0xBF ∷ [])
+
+-- one of the two bytes is NUL, and the other is not
+abbrev pub has_one_nul : Option ℕ → Option ℕ → Bool
+has_one_nul (Some a) (Some b) = if nat_eq a 0 then not (nat_eq b 0) else nat_eq b 0
+has_one_nul _ _ = false
+
+-- the byte order mark in UTF-16, or the first two bytes of a text that begins with an ASCII character
+abbrev pub is_utf16 : List ℕ → Bool
+is_utf16 line =
+    starts_with nat_eq line (0xFF ∷ 0xFE ∷ [])
+    || (starts_with nat_eq line (0xFE ∷ 0xFF ∷ []) || has_one_nul (slice_get line 0) (slice_get line 1))
 
 -- the text begins with these letters, in any case
 abbrev pub begins_with : List ℕ → List ℕ → Bool

@@ -2,6 +2,7 @@
 
 ghost use Rattle.std.specs.Prelude.{◌≡◌, ◌≢◌, None, Some, MatchOption};
 ghost use Rattle.line_diagnosis.specs.Rest.{Accepts, IsStep, IsStuck, Steps, after};
+ghost use Rattle.line_diagnosis.specs.Says.{Explains, ExpectsPart, IsFound};
 ghost use Rattle.line_diagnosis.specs.Turn.{after_blank, after_iri, part};
 ghost use Rattle.line_diagnosis.specs.declared.reason.Next.TheVariants as next;
 ghost use Rattle.line_diagnosis.specs.declared.state.State.TheVariants as state;
@@ -10,7 +11,9 @@ use crate::reason::{Found, Next, Reason};
 use crate::state::{Part, Scheme, State};
 
 /// Returns what begins with this character.
-fn found(c: char) -> Found {
+fn found(c: char) -> Found
+    ensures { IsFound (Some c) result }
+{
     match c {
         '<' => Found::Iri,
         '_' => Found::BlankNode,
@@ -67,7 +70,8 @@ fn opened(next: Next, c: char) -> Option<State>
 
 /// Reads a character before, between or after terminals.
 pub fn step_between(next: Next, c: char) -> Result<State, Reason>
-    ensures { Steps (Accepts (state.Between next)) c result }
+    ensures steps { Steps (Accepts (state.Between next)) c result }
+    ensures expected { ExpectsPart next c result }
 {
     if c == ' ' || c == '\t' {
         return Ok(State::Between(next));
@@ -80,7 +84,8 @@ pub fn step_between(next: Next, c: char) -> Result<State, Reason>
 
 /// Reads a character after a string.
 pub fn step_after_string(c: char) -> Result<State, Reason>
-    ensures { Steps (Accepts state.AfterString) c result }
+    ensures steps { Steps (Accepts state.AfterString) c result }
+    ensures says { Explains state.AfterString c result }
 {
     match c {
         ' ' | '\t' => Ok(State::AfterString),

@@ -6,15 +6,19 @@ ghost use Rattle.nquads_core.specs.Grammar.{IsMalformed};
 ghost use Rattle.line_diagnosis.specs.Place.{IsWellFormed};
 ghost use Rattle.line_diagnosis.specs.Column.{column_of};
 ghost use Rattle.line_diagnosis.specs.Explained.{IsExplained};
-ghost use Rattle.line_diagnosis.specs.Front.{IsLongestText, IsWalk, is_line_break};
+ghost use Rattle.line_diagnosis.specs.Front.{IsFirstReason, IsLongestText, IsTextEnd, IsWalk};
+ghost use Rattle.line_diagnosis.specs.Reasons.{IsReason};
 ghost use Rattle.line_diagnosis.specs.Rest.{Accepts, IsStep, Steps};
+ghost use Rattle.line_diagnosis.specs.Says.{Explains, Says};
+ghost use Rattle.line_diagnosis.specs.StateAfter.{is_line_break};
 ghost use Rattle.line_diagnosis.specs.declared.diagnosis.Counted.TheVariants.{Bytes, Characters};
 
 use crate::between::{step_after_string, step_between};
 use crate::iris::{step_backslash, step_escape, step_iri};
 use crate::labels::{step_label, step_label_dot, step_label_dots};
 use crate::literals::{step_string, step_string_backslash, step_string_escape};
-use crate::reason::{Found, Next, Packing, Reason};
+use crate::likeness::{begins_with_mark, is_utf16, packing_of};
+use crate::reason::{Found, Next, Reason};
 use crate::state::{State, after};
 use crate::tags::{step_subtag, step_tag};
 use excerpt::count_of;
@@ -41,7 +45,7 @@ pub struct Diagnosis {
     pub column: usize,
     /// The unit of the column.
     pub counted: Counted,
-    /// The reason why the character at the place is not allowed.
+    /// The reason why the character at the place is not allowed, or what the bytes are instead.
     pub reason: Reason,
 }
 
@@ -59,8 +63,9 @@ struct Walk {
 
 /// Returns the state after a character, if the character is allowed.
 fn expect(is_allowed: bool, state: State, reason: Reason) -> Result<State, Reason>
-    ensures { MatchResult result (λ new. (is_allowed ≡ true) × (new ≡ state))
-        (λ reason. is_allowed ≡ false) }
+    ensures allowed { MatchResult result (λ new. (is_allowed ≡ true) × (new ≡ state))
+        (λ error. is_allowed ≡ false) }
+    ensures says { MatchResult result (λ new. Unit {0}) (λ error. error ≡ reason) }
 {
     if is_allowed { Ok(state) } else { Err(reason) }
 }
@@ -70,7 +75,8 @@ fn expect(is_allowed: bool, state: State, reason: Reason) -> Result<State, Reaso
 /// # Errors
 /// The reason why no well-formed line continues with this character in this state.
 fn step_plain(state: State, c: char) -> Result<State, Reason>
-    ensures { Steps (Accepts state) c result }
+    ensures steps { Steps (Accepts state) c result }
+    ensures says { Explains state c result }
 {
     let found = Found::Char(c);
     match state {
@@ -117,9 +123,10 @@ fn step_plain(state: State, c: char) -> Result<State, Reason>
 /// # Errors
 /// The reason why no well-formed line continues with this character in this state.
 fn step(state: State, c: char) -> Result<State, Reason>
-    ensures { MatchResult result
+    ensures steps { MatchResult result
         (λ new. (is_line_break c ≡ false) × IsStep (Accepts state) c new)
         (λ reason. (cs : List ℕ) → NonePass is_line_break (c ∷ cs) → Accepts state (c ∷ cs) → ⊥) }
+    ensures says { Explains state c result }
 {
     if c == '\n' || c == '\r' {
         return Err(Reason::LineBreak);
@@ -128,7 +135,9 @@ fn step(state: State, c: char) -> Result<State, Reason>
 }
 
 /// Returns the reason why a line may not end in a state.
-fn reason_at_end(state: State) -> Reason {
+fn reason_at_end(state: State) -> Reason
+    ensures { Says state None result }
+{
     match state {
         State::Between(next) => Reason::Unexpected(next, Found::LineEnd),
         State::AfterString | State::Tag | State::Subtag => {
@@ -178,7 +187,8 @@ fn read_front(text: &str) -> Walk
 /// Returns the longest valid UTF-8 text that the bytes begin with, and the reason why the bytes
 /// after it are not a character.
 fn text_of(line: &[u8]) -> (&str, Option<Reason>)
-    ensures { IsLongestText line.now result.0.now }
+    ensures longest { IsLongestText line.now result.0.now }
+    ensures broken { IsTextEnd line.now result.0.now result.1 }
 {
     match str::from_utf8(line) {
         Ok(text) => (text, None),
@@ -196,44 +206,30 @@ fn text_of(line: &[u8]) -> (&str, Option<Reason>)
     }
 }
 
-/// The first bytes of compressed files.
-const MAGIC: [(&[u8], Packing); 4] = [
-    (b"\x1F\x8B", Packing::Gzip),
-    (b"\xFD7zXZ", Packing::Xz),
-    (b"\x28\xB5\x2F\xFD", Packing::Zstd),
-    (b"BZh", Packing::Bzip2),
-];
-
-/// Returns the format of a compressed file that begins with these bytes.
-fn packing_of(line: &[u8]) -> Option<Packing> {
-    for (magic, packing) in MAGIC {
-        if line.starts_with(magic) {
-            return Some(packing);
-        }
-    }
-    None
-}
-
-/// Returns whether the bytes begin as a UTF-16 text does: with its byte order mark, or with an
-/// ASCII character.
-fn is_utf16(line: &[u8]) -> bool {
-    match line {
-        [first, second, ..] => matches!(
-            (*first, *second),
-            (0xFF, 0xFE) | (0xFE, 0xFF) | (0, _) | (_, 0)
-        ),
-        _ => false,
+/// Returns the reason at the end of a walk over the text of a line, given the reason why the bytes after the text are not
+/// a character.
+fn reason_of(walk: Walk, broken: Option<Reason>) -> Reason
+    ensures { IsFirstReason walk broken result }
+{
+    match walk.reason {
+        Some(reason) => reason,
+        None => match broken {
+            Some(reason) => reason,
+            None => reason_at_end(walk.state),
+        },
     }
 }
 
 /// Returns a reason from the bytes of the whole line if they say more than the character at the
 /// place.
-fn refined(line: &[u8], offset: usize, reason: Reason) -> Reason {
+fn refined(line: &[u8], offset: usize, reason: Reason) -> Reason
+    ensures { IsReason line.now offset reason → IsReason line.now offset result }
+{
     if offset == 0 {
         if let Some(packing) = packing_of(line) {
             return Reason::Packed(packing);
         }
-        if line.starts_with("\u{feff}".as_bytes()) {
+        if begins_with_mark(line) {
             return Reason::ByteOrderMark;
         }
     }
@@ -285,6 +281,7 @@ fn column_of(line: &[u8], front: &[u8]) -> (usize, Counted)
 fn placed(line: &[u8], front: &[u8], reason: Reason) -> Diagnosis
     requires small { length front.now < 2 ^ 63 }
     requires utf8 { IsUtf8 front.now }
+    ensures reason { result.reason ≡ reason }
     ensures offset { result.offset ≡ length front.now }
     ensures column { result.column ≡ column_of result.counted front.now }
     ensures characters { (result.counted ≡ Characters) → IsUtf8 line.now }
@@ -305,8 +302,7 @@ fn explain(line: &[u8]) -> Diagnosis
 {
     let (text, broken) = text_of(line);
     let walk = read_front(text);
-    let reason = walk.reason.or(broken).unwrap_or(reason_at_end(walk.state));
-    let reason = refined(line, walk.offset, reason);
+    let reason = refined(line, walk.offset, reason_of(walk, broken));
     placed(line, &line[..walk.offset], reason)
 }
 

@@ -1,9 +1,11 @@
 //! Escapes of code points (RDF 1.1 N-Quads, section 4, [12] UCHAR).
 
-ghost use Rattle.std.specs.Prelude.{◌≡◌, ◌≢◌, ◌⊎◌, ◌+◌, ◌*◌, ℕ, true, MatchOption, MatchResult};
+ghost use Rattle.std.specs.Prelude.{◌<◌, ◌≡◌, ◌≢◌, ◌⊎◌, ◌+◌, ◌*◌, ℕ, true, MatchOption, MatchResult};
 ghost use Rattle.std.specs.Char.{digit_value};
 ghost use Rattle.rdf_core.specs.Characters.{is_hex};
 ghost use Rattle.line_diagnosis.specs.Rest.{AreRanges, are_code_points, head, is_head, may_come};
+ghost use Rattle.line_diagnosis.specs.Says.{SaysOfDigits, scalars};
+ghost use Rattle.line_diagnosis.specs.declared.reason.Reason.TheVariants.{IriEscape, Surrogate, TooLarge};
 
 use crate::reason::{Found, Reason};
 use crate::state::{Digits, Scheme};
@@ -91,7 +93,13 @@ pub fn digits_after(letter: char) -> Option<Digits>
 
 /// Returns the reason why the digits of this value, and `more` further ones, denote no code point
 /// that is allowed.
-fn reason_of(value: u64, more: u32) -> Reason {
+fn reason_of(value: u64, more: u32) -> Reason
+    ensures large { result ≡ TooLarge → head more 0x10FFFF < value }
+    ensures surrogate { result ≡ Surrogate
+        → (head more 0xD7FF < value) × (value < head more 0xE000) }
+    ensures escape { result ≡ IriEscape → is_head scalars more value ≡ true }
+    ensures known { (result ≡ TooLarge) ⊎ (result ≡ Surrogate) ⊎ (result ≡ IriEscape) }
+{
     if value > head(0x10FFFF, more) {
         Reason::TooLarge
     } else if head(0xD7FF, more) < value && value < head(0xE000, more) {
@@ -105,11 +113,12 @@ fn reason_of(value: u64, more: u32) -> Reason {
 /// value of the digits.
 pub fn step_digits(digits: Digits, ranges: &[(u64, u64)], c: char) -> Result<u64, Reason>
     requires { are_code_points ranges.now ≡ true }
-    ensures { MatchResult result
+    ensures digit { MatchResult result
         (λ value. (is_hex c ≡ true) × (value ≡ digits.value * 16 + digit_value c)
         × (is_head ranges.now digits.more value ≡ true))
         (λ reason. is_hex c ≡ true
         → is_head ranges.now digits.more (digits.value * 16 + digit_value c) ≡ true → ⊥) }
+    ensures says { MatchResult result (λ value. Unit {0}) (SaysOfDigits digits c) }
 {
     let Some(digit) = c.to_digit(16) else {
         return Err(Reason::NoDigit(Found::Char(c)));

@@ -1,15 +1,19 @@
 //! The hint for a malformed line.
 
-ghost use Rattle.std.specs.Prelude.{◌≡◌, ℕ, List, IfSome, Some};
-ghost use Rattle.line_diagnosis.specs.Safe.{IsSafe};
+ghost use Rattle.std.specs.Prelude.{◌≡◌, ℕ, List, length, min, take, true, IfSome, Some};
+ghost use Rattle.line_diagnosis.specs.Safe.{IsSafe, suits};
+ghost use Rattle.line_diagnosis.specs.declared.reason.Found.TheVariants.{Char};
 ghost use Rattle.line_diagnosis.specs.declared.hint.Hint.TheVariants.{Unpack};
 ghost use Rattle.line_diagnosis.specs.declared.hint.LineContext.{LineContext};
 ghost use Rattle.line_diagnosis.specs.declared.reason.Packing.{Packing};
-ghost use Rattle.line_diagnosis.specs.declared.reason.Reason.TheVariants.{Packed};
+ghost use Rattle.line_diagnosis.specs.declared.reason.Reason.TheVariants.{IriChar, Packed, Unexpected};
 
 use crate::diagnosis::Diagnosis;
-use crate::likeness::{is_conflict_mark, is_html, is_turtle};
-use crate::reason::{Found, Next, Packing, Reason};
+use crate::likeness::{
+    closes_iri, has_end_tag, is_attribute, is_bare_iri, is_conflict_mark, is_end_tag, is_html, is_text, is_turtle,
+};
+use crate::reason::{Found, Next, Packing, Reason, write_char};
+use excerpt::visible;
 use std::fmt;
 
 /// What is known of a line besides its bytes.
@@ -44,13 +48,25 @@ pub enum Hint {
     Html,
     Json,
     Conflict,
-    SpaceInIri,
+    /// Write this character of an IRI as an octet in hexadecimal digits (RFC 3987, section 3.1)
+    PercentEncode(char),
+    CloseIri,
     WholeIri,
+    AngleBrackets,
     DoubleQuotes,
     QuoteInside,
     BreakInside,
     Backslash,
     HyphenInTag,
+    OtherBlank,
+    OneStatement,
+}
+
+/// Writes how to encode an ASCII character of an IRI.
+fn write_octet<W: fmt::Write>(f: &mut fmt::Formatter<W>, c: char) -> fmt::Result {
+    f.write_str("write ")?;
+    write_char(f, c)?;
+    write!(f, " in an IRI as %{:02X}", c as u32)
 }
 
 impl fmt::Display for Hint {
@@ -85,15 +101,19 @@ impl fmt::Display for Hint {
             Hint::Html => "this looks like HTML; spq reads N-Quads",
             Hint::Conflict => "this looks like the mark of a merge conflict: resolve it",
             Hint::Json => "this looks like JSON or TriG; spq reads N-Quads",
-            Hint::SpaceInIri => "write a space in an IRI as %20",
+            Hint::PercentEncode(c) => return write_octet(f, *c),
+            Hint::CloseIri => "an IRI ends with '>': is it missing here?",
             Hint::WholeIri => {
                 "N-Quads has no relative IRIs: write the whole IRI, as <http://example.org/name>"
             }
-            Hint::DoubleQuotes => "write a literal in double quotes",
+            Hint::AngleBrackets => "write an IRI in angle brackets, as <http://example.org/name>",
+            Hint::DoubleQuotes => "write a literal in straight double quotes, as \"text\"",
             Hint::QuoteInside => "write a double quote inside a literal as \\\"",
             Hint::BreakInside => "write a line break inside a literal as \\n",
             Hint::Backslash => "write a backslash as \\\\ in a literal, and as %5C in an IRI",
             Hint::HyphenInTag => "a language tag has hyphens, as in @en-US",
+            Hint::OtherBlank => "only spaces and tabs may be between terms",
+            Hint::OneStatement => "write each statement on a line of its own",
         })
     }
 }
@@ -128,23 +148,64 @@ fn is_escaped_space(before: &[u8], rest: &[u8]) -> bool {
     rest.starts_with(b"0") && (before.ends_with(b"\\u002") || before.ends_with(b"\\U0000002"))
 }
 
+/// Returns whether a character looks like white space, or like nothing, and is no space and no tab.
+fn is_other_blank(c: char) -> bool {
+    !matches!(c, ' ' | '\t') && (c.is_whitespace() || !c.is_ascii() && visible(c) != c)
+}
+
+/// Returns the hint for a character that an IRI may not have, given the line from it on.
+fn hint_in_iri(c: char, rest: &[u8]) -> Hint
+    ensures safe { (context : LineContext) (line before : List ℕ)
+        → IsSafe context line before result }
+    ensures suits { suits result (IriChar c) ≡ true }
+{
+    let after = rest.get(1..).unwrap_or(&[]);
+    if c == ' ' && is_attribute(after) {
+        Hint::Xml
+    } else if c != '<' && closes_iri(after) {
+        Hint::PercentEncode(c)
+    } else {
+        Hint::CloseIri
+    }
+}
+
 /// Returns the hint for a character that begins no terminal, between these parts of the line.
 fn hint_of_char(before: &[u8], rest: &[u8], next: Next, c: char) -> Option<Hint>
-    ensures safe { (context : LineContext) (line : List ℕ) → IfSome result (IsSafe context line) }
+    ensures safe { (context : LineContext) (line front : List ℕ)
+        → IfSome result (IsSafe context line front) }
+    ensures suits { IfSome result (λ hint. suits hint (Unexpected next (Char c)) ≡ true) }
 {
     let touches_quote = next == Next::Graph && before.last().copied() == Some(b'"');
     match c {
-        '\'' if next == Next::Object => Some(Hint::DoubleQuotes),
+        '\'' | '“' | '‘' if next == Next::Object => Some(Hint::DoubleQuotes),
         '{' | '[' if before.is_empty() => Some(Hint::Json),
+        _ if is_other_blank(c) => Some(Hint::OtherBlank),
+        _ if is_attribute(rest) || next == Next::Predicate && has_end_tag(rest) => Some(Hint::Xml),
+        _ if is_bare_iri(rest) => Some(Hint::AngleBrackets),
         _ if is_turtle(next, rest) => Some(Hint::Turtle),
         _ if touches_quote => Some(Hint::QuoteInside),
         _ => None,
     }
 }
 
+/// Returns the hint for a term in the place of another part.
+fn hint_of_term(before: &[u8], next: Next, found: Found) -> Option<Hint>
+    ensures safe { (context : LineContext) (line front : List ℕ)
+        → IfSome result (IsSafe context line front) }
+    ensures suits { IfSome result (λ hint. suits hint (Unexpected next found) ≡ true) }
+{
+    match (next, found) {
+        (Next::Graph, Found::Literal) if before.ends_with(b" \"\"") => Some(Hint::Turtle),
+        (Next::Graph, Found::Literal) if before.ends_with(b"\"") => Some(Hint::QuoteInside),
+        (Next::End, Found::Iri | Found::BlankNode) => Some(Hint::OneStatement),
+        _ => None,
+    }
+}
+
 /// Returns the hint for a line that ends too early.
 fn hint_at_end(reason: Reason, context: &LineContext) -> Option<Hint>
-    ensures safe { (line : List ℕ) → IfSome result (IsSafe context.now line) }
+    ensures safe { (line before : List ℕ) → IfSome result (IsSafe context.now line before) }
+    ensures suits { IfSome result (λ hint. suits hint reason ≡ true) }
 {
     if context.is_cut {
         Some(Hint::Truncated)
@@ -156,8 +217,9 @@ fn hint_at_end(reason: Reason, context: &LineContext) -> Option<Hint>
 }
 
 /// Returns the hint for bytes that are no text, or that are those of another format.
-fn hint_of_bytes(before: &[u8], reason: Reason, context: &LineContext) -> Option<Hint>
-    ensures safe { (line : List ℕ) → IfSome result (IsSafe context.now line) }
+fn hint_of_bytes(before: &[u8], rest: &[u8], reason: Reason, context: &LineContext) -> Option<Hint>
+    ensures safe { (line : List ℕ) → IfSome result (IsSafe context.now line before.now) }
+    ensures suits { IfSome result (λ hint. suits hint reason ≡ true) }
     ensures packed { (packing : Packing) → reason ≡ Packed packing → context.now.number ≡ 1
         → result ≡ Some (Unpack packing) }
 {
@@ -171,7 +233,7 @@ fn hint_of_bytes(before: &[u8], reason: Reason, context: &LineContext) -> Option
         Reason::InvalidUtf8(_) if context.is_after_utf8 || !before.is_ascii() => {
             Some(Hint::Repair(context.number))
         }
-        Reason::InvalidUtf8(_) => Some(Hint::FromLatin1),
+        Reason::InvalidUtf8(_) if is_text(before) && is_text(rest) => Some(Hint::FromLatin1),
         Reason::CutCharacter if context.is_cut => Some(Hint::Truncated),
         _ => None,
     }
@@ -179,17 +241,20 @@ fn hint_of_bytes(before: &[u8], reason: Reason, context: &LineContext) -> Option
 
 /// Returns the hint for text, given the parts of the line before the place and from it on.
 fn hint_of_text(before: &[u8], rest: &[u8], reason: Reason, context: &LineContext) -> Option<Hint>
-    ensures safe { (line : List ℕ) → IfSome result (IsSafe context.now line) }
+    ensures safe { (line front : List ℕ) → IfSome result (IsSafe context.now line front) }
+    ensures suits { IfSome result (λ hint. suits hint reason ≡ true) }
 {
     match reason {
-        Reason::IriChar(' ') => Some(Hint::SpaceInIri),
-        Reason::IriEscape if is_escaped_space(before, rest) => Some(Hint::SpaceInIri),
+        Reason::IriChar(c) => Some(hint_in_iri(c, rest)),
+        Reason::IriEscape if is_escaped_space(before, rest) => Some(Hint::PercentEncode(' ')),
         Reason::NoScheme(Found::Char('?' | '!')) => Some(Hint::Xml),
+        Reason::NoScheme(Found::Char('/')) if is_end_tag(rest) => Some(Hint::Xml),
         Reason::NoScheme(_) => Some(Hint::WholeIri),
         Reason::UnknownEscape(_) => Some(Hint::Backslash),
         Reason::NoColon(_) if ends_with_tag(before) => Some(Hint::HyphenInTag),
         Reason::Unexpected(next, Found::Char(c)) => hint_of_char(before, rest, next, c),
         reason if rest.is_empty() => hint_at_end(reason, context),
+        Reason::Unexpected(next, found) => hint_of_term(before, next, found),
         _ => None,
     }
 }
@@ -200,12 +265,14 @@ fn hint_of_text(before: &[u8], rest: &[u8], reason: Reason, context: &LineContex
 /// unpacked or converted for its first line alone, and from Latin-1 only if no text in UTF-8 is before the
 /// place. Only the last line can be truncated.
 pub fn hint_of(line: &[u8], diagnosis: &Diagnosis, context: &LineContext) -> Option<Hint>
-    ensures safe { IfSome result (IsSafe context.now line.now) }
+    ensures safe { IfSome result (IsSafe context.now line.now
+        (take (min diagnosis.now.offset (length line.now)) line.now)) }
+    ensures suits { IfSome result (λ hint. suits hint diagnosis.now.reason ≡ true) }
     ensures packed { (packing : Packing) → diagnosis.now.reason ≡ Packed packing
         → context.now.number ≡ 1 → result ≡ Some (Unpack packing) }
 {
-    let before = line.get(..diagnosis.offset).unwrap_or(line);
-    if let Some(hint) = hint_of_bytes(before, diagnosis.reason, context) {
+    let (before, rest) = line.split_at(diagnosis.offset.min(line.len()));
+    if let Some(hint) = hint_of_bytes(before, rest, diagnosis.reason, context) {
         return Some(hint);
     }
     if is_html(line) {
@@ -214,6 +281,5 @@ pub fn hint_of(line: &[u8], diagnosis: &Diagnosis, context: &LineContext) -> Opt
     if is_conflict_mark(line) {
         return Some(Hint::Conflict);
     }
-    let rest = line.get(diagnosis.offset..).unwrap_or(&[]);
     hint_of_text(before, rest, diagnosis.reason, context)
 }

@@ -1,7 +1,9 @@
 //! IRIs in angle brackets with a scheme (RDF 1.1 N-Quads, section 4, [10] IRIREF).
 
-ghost use Rattle.std.specs.Prelude.{◌≡◌, true, ℕ, List, ◌∷◌};
+ghost use Rattle.std.specs.Prelude.{◌≡◌, true, false, ℕ, List, ◌∷◌, Some};
 ghost use Rattle.line_diagnosis.specs.Rest.{Accepts, Steps, completes_scheme, may_come};
+ghost use Rattle.line_diagnosis.specs.Says.{Explains, Says};
+ghost use Rattle.line_diagnosis.specs.declared.state.Part.{Part};
 ghost use Rattle.line_diagnosis.specs.declared.state.State.TheVariants as state;
 
 use crate::escapes::{digits_after, iri_ranges, is_head, step_digits};
@@ -23,18 +25,27 @@ fn scheme_after(scheme: Scheme, code: u64) -> Scheme
 }
 
 /// Returns the reason why a character is not allowed in an IRI.
-fn reason_of(scheme: Scheme, c: char) -> Reason {
-    match c {
-        '\n' | '\r' => Reason::LineBreak,
-        '<' if matches!(scheme, Scheme::Unread) => Reason::QuotedTriple,
-        _ if is_iri_char(c) || c == '>' => Reason::NoScheme(Found::Char(c)),
-        _ => Reason::IriChar(c),
+fn reason_of(scheme: Scheme, c: char) -> Reason
+    requires { may_come scheme c ≡ false }
+    ensures { (p : Part) → Says (state.Iri p scheme) (Some c) result }
+{
+    if c == '\n' || c == '\r' {
+        return Reason::LineBreak;
+    }
+    match scheme {
+        Scheme::Read => Reason::IriChar(c),
+        Scheme::Unread if c == '<' => Reason::QuotedTriple,
+        Scheme::Unread | Scheme::Begun if is_iri_char(c) || c == '>' => {
+            Reason::NoScheme(Found::Char(c))
+        }
+        Scheme::Unread | Scheme::Begun => Reason::IriChar(c),
     }
 }
 
 /// Reads a character in an IRI.
 pub fn step_iri(part: Part, scheme: Scheme, c: char) -> Result<State, Reason>
-    ensures { Steps (Accepts (state.Iri part scheme)) c result }
+    ensures steps { Steps (Accepts (state.Iri part scheme)) c result }
+    ensures says { Explains (state.Iri part scheme) c result }
 {
     if c == '\\' {
         return Ok(State::IriBackslash(part, scheme));
@@ -51,7 +62,8 @@ pub fn step_iri(part: Part, scheme: Scheme, c: char) -> Result<State, Reason>
 
 /// Reads a character after a backslash.
 pub fn step_backslash(part: Part, scheme: Scheme, c: char) -> Result<State, Reason>
-    ensures { Steps (Accepts (state.IriBackslash part scheme)) c result }
+    ensures steps { Steps (Accepts (state.IriBackslash part scheme)) c result }
+    ensures says { Explains (state.IriBackslash part scheme) c result }
 {
     match digits_after(c) {
         Some(digits) => Ok(State::IriDigits(part, scheme, digits)),
@@ -61,7 +73,8 @@ pub fn step_backslash(part: Part, scheme: Scheme, c: char) -> Result<State, Reas
 
 /// Reads a character of an escape.
 pub fn step_escape(part: Part, scheme: Scheme, digits: Digits, c: char) -> Result<State, Reason>
-    ensures { Steps (Accepts (state.IriDigits part scheme digits)) c result }
+    ensures steps { Steps (Accepts (state.IriDigits part scheme digits)) c result }
+    ensures says { Explains (state.IriDigits part scheme digits) c result }
 {
     let value = step_digits(digits, iri_ranges(scheme), c)?;
     if digits.more == 0 {

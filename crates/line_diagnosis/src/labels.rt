@@ -2,6 +2,7 @@
 //! a part of it if a label character follows the dots.
 
 ghost use Rattle.line_diagnosis.specs.Rest.{Accepts, Steps};
+ghost use Rattle.line_diagnosis.specs.Says.{Explains};
 ghost use Rattle.line_diagnosis.specs.declared.state.State.TheVariants as state;
 
 use crate::between::step_between;
@@ -11,7 +12,8 @@ use rdf_core::lexical::is_label_char;
 
 /// Reads a character in a label.
 pub fn step_label(part: Part, c: char) -> Result<State, Reason>
-    ensures { Steps (Accepts (state.Label part)) c result }
+    ensures steps { Steps (Accepts (state.Label part)) c result }
+    ensures says { Explains (state.Label part) c result }
 {
     if is_label_char(c) {
         Ok(State::Label(part))
@@ -24,7 +26,8 @@ pub fn step_label(part: Part, c: char) -> Result<State, Reason>
 
 /// Reads a character after the first dot, which may be the end of the statement.
 pub fn step_label_dot(part: Part, c: char) -> Result<State, Reason>
-    ensures { Steps (Accepts (state.LabelDot part)) c result }
+    ensures steps { Steps (Accepts (state.LabelDot part)) c result }
+    ensures says { Explains (state.LabelDot part) c result }
 {
     if is_label_char(c) {
         Ok(State::Label(part))
@@ -39,7 +42,8 @@ pub fn step_label_dot(part: Part, c: char) -> Result<State, Reason>
 
 /// Reads a character after further dots, which only a label can have.
 pub fn step_label_dots(part: Part, c: char) -> Result<State, Reason>
-    ensures { Steps (Accepts (state.LabelDots part)) c result }
+    ensures steps { Steps (Accepts (state.LabelDots part)) c result }
+    ensures says { Explains (state.LabelDots part) c result }
 {
     if c == '.' {
         Ok(State::LabelDots(part))

@@ -1,9 +1,69 @@
-//! What the text of a malformed line looks like, for its hint.
+//! What the bytes of a malformed line look like, for its reason and its hint.
 
-ghost use Rattle.std.specs.Prelude.{◌≡◌, ◌||◌, ◌==◌};
-ghost use Rattle.line_diagnosis.specs.Likeness.{begins_with, ends_word, goes_on, is_conflict_mark, is_html, is_html_tag, is_html_text, is_marked};
+ghost use Rattle.std.specs.Prelude.{◌≡◌, ◌||◌, ◌==◌, true, nat_eq, IfSome};
+ghost use Rattle.std.specs.List.{starts_with};
+ghost use Rattle.line_diagnosis.specs.Likeness.{begins_with, begins_with_mark, ends_word, goes_on, has_one_nul, is_conflict_mark, is_html, is_html_tag, is_html_text, is_marked, is_utf16, magic};
 
-use crate::reason::Next;
+use crate::reason::{Next, Packing};
+
+impl Packing {
+    /// Returns the first bytes of a file in this format.
+    fn magic(self) -> &'static [u8]
+        ensures value { result.now ≡ magic self }
+    {
+        match self {
+            Packing::Gzip => b"\x1F\x8B",
+            Packing::Xz => b"\xFD7zXZ",
+            Packing::Zstd => b"\x28\xB5\x2F\xFD",
+            Packing::Bzip2 => b"BZh",
+        }
+    }
+}
+
+/// Returns the format of a compressed file that begins with these bytes.
+pub fn packing_of(line: &[u8]) -> Option<Packing>
+    ensures begins { IfSome result (λ packing. starts_with nat_eq line.now (magic packing) ≡ true) }
+{
+    for packing in [Packing::Gzip, Packing::Xz, Packing::Zstd, Packing::Bzip2] {
+        if line.starts_with(packing.magic()) {
+            return Some(packing);
+        }
+    }
+    None
+}
+
+/// Returns whether the bytes begin with a byte order mark in UTF-8.
+pub fn begins_with_mark(line: &[u8]) -> bool
+    ensures value { result ≡ begins_with_mark line.now }
+{
+    line.starts_with(b"\xEF\xBB\xBF")
+}
+
+/// Returns whether the bytes have no control characters but tabs.
+pub fn is_text(bytes: &[u8]) -> bool {
+    bytes.iter().all(|byte| *byte >= b' ' || *byte == b'\t')
+}
+
+/// Returns whether one of the first two bytes is NUL, and the other is not.
+fn has_one_nul(first: Option<u8>, second: Option<u8>) -> bool
+    ensures value { result ≡ has_one_nul first second }
+{
+    match (first, second) {
+        (Some(0), Some(second)) => second != 0,
+        (Some(_), Some(second)) => second == 0,
+        _ => false,
+    }
+}
+
+/// Returns whether the bytes begin as a UTF-16 text does: with its byte order mark, or with an
+/// ASCII character other than NUL.
+pub fn is_utf16(line: &[u8]) -> bool
+    ensures value { result ≡ is_utf16 line.now }
+{
+    line.starts_with(b"\xFF\xFE")
+        || line.starts_with(b"\xFE\xFF")
+        || has_one_nul(line.get(0).copied(), line.get(1).copied())
+}
 
 /// Returns whether a byte is a blank.
 fn is_blank(byte: u8) -> bool
@@ -86,6 +146,49 @@ pub fn is_conflict_mark(line: &[u8]) -> bool
         || is_marked(line, b"|||||||")
         || is_marked(line, b"=======")
         || is_marked(line, b">>>>>>>")
+}
+
+/// Returns whether `>` closes the IRI that goes on with a text: it comes before each `<` and `"`.
+pub fn closes_iri(text: &[u8]) -> bool {
+    match text.iter().position(|byte| matches!(*byte, b'<' | b'>' | b'"')) {
+        Some(at) => text[at] == b'>',
+        None => false,
+    }
+}
+
+/// Returns whether a text begins with an attribute of an XML tag, such as `xmlns:ex="..`, perhaps after white space.
+pub fn is_attribute(text: &[u8]) -> bool {
+    let text = text.trim_ascii_start();
+    let Some(end) = text.iter().position(|byte| *byte == b'=') else {
+        return false;
+    };
+    let mut name = text[..end].iter();
+    let is_quoted = matches!(text.get(end + 1).copied(), Some(b'"' | b'\''));
+    end > 0 && is_quoted && name.all(|byte| is_prefix_byte(*byte) || *byte == b':')
+}
+
+/// Returns whether a text has an end tag of XML.
+pub fn has_end_tag(text: &[u8]) -> bool {
+    text.windows(2).any(|pair| pair == b"</".as_slice())
+}
+
+/// Returns whether a text that follows `<` is the rest of an end tag of XML, and of the line.
+pub fn is_end_tag(text: &[u8]) -> bool {
+    let end = text.iter().position(|byte| *byte == b'>');
+    text.starts_with(b"/") && end == text.trim_ascii_end().len().checked_sub(1)
+}
+
+/// Returns whether a text begins with an IRI without its angle brackets, such as `http://..`.
+pub fn is_bare_iri(text: &[u8]) -> bool {
+    match text.iter().position(|byte| *byte == b':') {
+        Some(colon) => {
+            let mut scheme = text[..colon].iter();
+            colon > 0
+                && scheme.all(|byte| byte.is_ascii_alphanumeric())
+                && text[colon..].starts_with(b"://")
+        }
+        None => false,
+    }
 }
 
 /// Returns whether a byte may be in the prefix of a prefixed name (Turtle, section 6.5,
@@ -193,8 +296,7 @@ pub fn is_turtle(next: Next, text: &[u8]) -> bool {
             is_prefixed_name(text)
                 || is_number(text)
                 || is_boolean(text)
-                || text.starts_with(b"[")
-                || text.starts_with(b"(")
+                || matches!(text.first().copied(), Some(b'[' | b'(' | b';'))
         }
         Next::Datatype => is_prefixed_name(text),
         Next::Graph => text.starts_with(b";") || text.starts_with(b","),

@@ -1,6 +1,7 @@
 //! Strings (RDF 1.1 N-Quads, section 4, [11] STRING_LITERAL_QUOTE).
 
 ghost use Rattle.line_diagnosis.specs.Rest.{Accepts, Steps};
+ghost use Rattle.line_diagnosis.specs.Says.{Explains};
 ghost use Rattle.line_diagnosis.specs.declared.state.State.TheVariants as state;
 
 use crate::escapes::{SCALARS, digits_after, step_digits};
@@ -10,7 +11,8 @@ use rdf_core::lexical::echar;
 
 /// Reads a character in a string.
 pub fn step_string(c: char) -> Result<State, Reason>
-    ensures { Steps (Accepts state.String) c result }
+    ensures steps { Steps (Accepts state.String) c result }
+    ensures says { Explains state.String c result }
 {
     match c {
         '"' => Ok(State::AfterString),
@@ -22,7 +24,8 @@ pub fn step_string(c: char) -> Result<State, Reason>
 
 /// Reads a character after a backslash.
 pub fn step_string_backslash(c: char) -> Result<State, Reason>
-    ensures { Steps (Accepts state.StringBackslash) c result }
+    ensures steps { Steps (Accepts state.StringBackslash) c result }
+    ensures says { Explains state.StringBackslash c result }
 {
     if let Some(_) = echar(c) {
         return Ok(State::String);
@@ -35,7 +38,8 @@ pub fn step_string_backslash(c: char) -> Result<State, Reason>
 
 /// Reads a character of an escape.
 pub fn step_string_escape(digits: Digits, c: char) -> Result<State, Reason>
-    ensures { Steps (Accepts (state.StringDigits digits)) c result }
+    ensures steps { Steps (Accepts (state.StringDigits digits)) c result }
+    ensures says { Explains (state.StringDigits digits) c result }
 {
     let value = step_digits(digits, &SCALARS, c)?;
     if digits.more == 0 {

@@ -1,10 +1,11 @@
 //! The message for a malformed line.
 
-ghost use Rattle.std.specs.Prelude.{IfOk, IfNone, IfSome, OnSome, Some, string_bytes};
+ghost use Rattle.std.specs.Prelude.{IfOk, IfNone, IfSome, OnSome, Some, length, min, take, string_bytes};
 ghost use Rattle.nquads_core.specs.Grammar.{IsMalformed};
 ghost use Rattle.line_diagnosis.specs.Explained.{IsExplained};
 ghost use Rattle.line_diagnosis.specs.Place.{IsWellFormed};
 ghost use Rattle.line_diagnosis.specs.Report.{IsReport, place_words};
+ghost use Rattle.line_diagnosis.specs.Safe.{IsFitting};
 
 use crate::diagnosis::{Counted, Diagnosis, count_of_bytes, diagnose};
 use crate::hint::{Hint, LineContext, hint_of};
@@ -41,6 +42,8 @@ fn message_of(
     hint: Option<&Hint>,
 ) -> Result<String, AllocError>
     requires explained { IsExplained line.now diagnosis.now }
+    requires fits { IfSome hint (λ h. IsFitting number line.now
+        (take (min diagnosis.now.offset (length line.now)) line.now) diagnosis.now.reason h.now) }
     ensures message { IfOk result (λ s. IsReport number line.now (string_bytes s)) }
 {
     let place = Place {

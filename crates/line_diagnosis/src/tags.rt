@@ -1,6 +1,7 @@
 //! Language tags (RDF 1.1 N-Quads, section 4, [144s] LANGTAG).
 
 ghost use Rattle.line_diagnosis.specs.Rest.{Accepts, Steps};
+ghost use Rattle.line_diagnosis.specs.Says.{Explains};
 ghost use Rattle.line_diagnosis.specs.declared.state.State.TheVariants as state;
 
 use crate::between::step_between;
@@ -9,7 +10,8 @@ use crate::state::State;
 
 /// Reads a character in the first part of a tag.
 pub fn step_tag(c: char) -> Result<State, Reason>
-    ensures { Steps (Accepts state.Tag) c result }
+    ensures steps { Steps (Accepts state.Tag) c result }
+    ensures says { Explains state.Tag c result }
 {
     if c.is_ascii_alphabetic() {
         Ok(State::Tag)
@@ -22,7 +24,8 @@ pub fn step_tag(c: char) -> Result<State, Reason>
 
 /// Reads a character in a later part of a tag.
 pub fn step_subtag(c: char) -> Result<State, Reason>
-    ensures { Steps (Accepts state.Subtag) c result }
+    ensures steps { Steps (Accepts state.Subtag) c result }
+    ensures says { Explains state.Subtag c result }
 {
     if c.is_ascii_alphanumeric() {
         Ok(State::Subtag)

@@ -4,6 +4,8 @@ use Rattle.std.proofs.lemmas.List.Elements.{All-set}
 use Rattle.std.proofs.lemmas.Option.{slice_get_within}
 use Rattle.std.proofs.lemmas.List.Sums.{sum_by-set, get_or-le-sum_by}
 use Rattle.malformed_lines.specs.Counts.{total_of}
+use Rattle.line_diagnosis.specs.declared.summary.Summary.{Summary}
+use Rattle.line_diagnosis.specs.Summary.{DifferInFound}
 use Rattle.malformed_lines.specs.Malformed.{NameLinesFrom, NamesLineFrom}
 use Rattle.malformed_lines.proofs.MalformedLaws.{after_all, still_at}
 use Rattle.malformed_lines.specs.declared.reason_counts.ReasonCount.{ReasonCount}
@@ -24,8 +26,8 @@ count_grows counts i r y m l e k =
 
 -- a count that grows names the same line
 pub named_grows : (counts : List ReasonCount) (i : ℕ) (r y : ReasonCount) (n : ℕ) (lines : List (List ℕ)) → i < length counts → r ≡ get_or counts i r
-    → y.first ≡ r.first → y.column ≡ r.column → y.counted ≡ r.counted → NameLinesFrom n lines counts → NameLinesFrom n lines (set counts i y)
-named_grows counts i r y n lines l e f c u h =
+    → y.first ≡ r.first → y.column ≡ r.column → y.counted ≡ r.counted → y.reason ≡ r.reason → NameLinesFrom n lines counts → NameLinesFrom n lines (set counts i y)
+named_grows counts i r y n lines l e f c u s h =
     let a : NamesLineFrom n lines r = subst (NamesLineFrom n lines) (sym e) (h i r l) in
     All-set (NamesLineFrom n lines) counts i y (record {
       place = a.place;
@@ -37,6 +39,7 @@ named_grows counts i r y n lines l e f c u h =
       explained = a.explained;
       column = c ∙ a.column;
       counted = u ∙ a.counted;
+      reason = subst (λ (x : Summary). DifferInFound a.diagnosis.reason x.reason) (sym s) a.reason;
     }) h
 
 -- the number that a count names is within the lines
@@ -45,8 +48,8 @@ named_within lines c a = let w = slice_get_within lines a.place a.line a.at_plac
 
 -- the line of a piece is that of a document
 pub named_moved : (front back : List (List ℕ)) (before : ℕ) (old new : ReasonCount) → before ≡ length front → NamesLineFrom 0 back old
-    → new.first ≡ before + old.first + 1 → new.column ≡ old.column → new.counted ≡ old.counted → NamesLineFrom 1 (front ++ back) new
-named_moved front back before old new e a f c u = record {
+    → new.first ≡ before + old.first + 1 → new.column ≡ old.column → new.counted ≡ old.counted → new.reason ≡ old.reason → NamesLineFrom 1 (front ++ back) new
+named_moved front back before old new e a f c u s = record {
   place = length front + a.place;
   number = omega (arith, f, e, a.number);
   line = a.line;
@@ -56,6 +59,7 @@ named_moved front back before old new e a f c u = record {
   explained = a.explained;
   column = c ∙ a.column;
   counted = u ∙ a.counted;
+  reason = subst (λ (x : Summary). DifferInFound a.diagnosis.reason x.reason) (sym s) a.reason;
 }
 
 -- more lines follow
@@ -70,4 +74,5 @@ named_still n a b counts h = λ k d l. let s = h k d l in record {
   explained = s.explained;
   column = s.column;
   counted = s.counted;
+  reason = s.reason;
 }

@@ -15,6 +15,7 @@ use Rattle.line_diagnosis.specs.Explained.{IsExplained}
 use Rattle.malformed_lines.specs.declared.reason_counts.ReasonCount.{ReasonCount}
 use Rattle.malformed_lines.specs.declared.piece_list.FoundLine.{FoundLine}
 use Rattle.malformed_lines.specs.declared.piece_list.PieceList.{PieceList}
+use Rattle.line_diagnosis.specs.Summary.{DifferInFound}
 use Rattle.malformed_lines.specs.Malformed.{AreMalformedFrom, IsFound, IsKept, IsListOf, NameLinesFrom, NamesLineFrom, most_shown}
 use Rattle.malformed_lines.proofs.CountLaws.{named_still}
 use Rattle.malformed_lines.proofs.MalformedLaws.{malformed_more, still_at, well_formed_more}
@@ -45,8 +46,8 @@ one_found before line f p b = λ k d l.
 
 -- a new count names the line after these
 pub named_here : (before : List (List ℕ)) (line : List ℕ) (old : PieceList) (d : Diagnosis) (c : ReasonCount) → IsListOf before old → IsMalformed line → IsExplained line d
-    → c.first ≡ old.lines → c.column ≡ d.column → c.counted ≡ d.counted → NamesLineFrom 0 (before ++ line ∷ []) c
-named_here before line old d c h m x f o u = record {
+    → c.first ≡ old.lines → c.column ≡ d.column → c.counted ≡ d.counted → DifferInFound d.reason c.reason.reason → NamesLineFrom 0 (before ++ line ∷ []) c
+named_here before line old d c h m x f o u s = record {
   place = length before;
   number = omega (arith, f, h.count);
   line = line;
@@ -56,6 +57,7 @@ named_here before line old d c h m x f o u = record {
   explained = x;
   column = o;
   counted = u;
+  reason = s;
 }
 
 -- the line after these is malformed

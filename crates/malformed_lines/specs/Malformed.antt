@@ -6,6 +6,7 @@ use Rattle.rdf_core.specs.QuadParts.{QuadParts}
 use Rattle.nquads_core.specs.Grammar.{HasStatement, IsMalformed}
 use Rattle.line_diagnosis.specs.declared.diagnosis.Diagnosis.{Diagnosis}
 use Rattle.line_diagnosis.specs.Explained.{IsExplained}
+use Rattle.line_diagnosis.specs.Summary.{DifferInFound}
 use Rattle.malformed_lines.specs.declared.reason_counts.ReasonCount.{ReasonCount}
 use Rattle.malformed_lines.specs.declared.piece_list.FoundLine.{FoundLine}
 use Rattle.malformed_lines.specs.declared.piece_list.PieceList.{PieceList}
@@ -36,7 +37,7 @@ AreMalformed lines numbers = AreMalformedFrom 1 lines numbers
 abbrev pub IsFound : List (List ℕ) → FoundLine → Type 0
 IsFound lines found = slice_get lines found.place ≡ Some found.bytes.now
 
--- The count names a malformed line, by its number from n on, and the column of the place in it.
+-- The count names a malformed line, by its number from n on, and the reason and the column of the place in it.
 pub record NamesLineFrom (n : ℕ) (lines : List (List ℕ)) (c : ReasonCount) : Type 0 where
   pub place : ℕ
   pub number : c.first ≡ n + place
@@ -47,6 +48,7 @@ pub record NamesLineFrom (n : ℕ) (lines : List (List ℕ)) (c : ReasonCount) :
   pub explained : IsExplained line diagnosis
   pub column : c.column ≡ diagnosis.column
   pub counted : c.counted ≡ diagnosis.counted
+  pub reason : DifferInFound diagnosis.reason c.reason.reason
 
 -- each count names a malformed line
 abbrev pub NameLinesFrom : ℕ → List (List ℕ) → List ReasonCount → Type 0

@@ -152,7 +152,10 @@ fn hint_for(text: &Text<'_>, stop: &Stop) -> Option<Hint> {
         return None;
     }
     match text.unread(stop) {
-        Some(c) => hint_at_char(c, &stop.stack),
+        Some(c) => {
+            let after = text.rest.get(1..).unwrap_or(&[]);
+            hint_at_char(text.tokens, c, after, &stop.stack)
+        }
         None => hint_at(text.tokens, stop.at, &stop.stack),
     }
 }

@@ -39,6 +39,16 @@ pub enum Hint {
     WholeIri,
     OtherVariable,
     VariableForBlank,
+    AngleBrackets,
+    StraightQuotes,
+    Prologue,
+    QuestionMark,
+    Logic,
+    OneEqual,
+    NotEqual,
+    HyphenInTag,
+    Union,
+    Dot,
 }
 
 const ORDER_BY: &str =
@@ -126,6 +136,27 @@ const OTHER_VARIABLE: &str = "write another variable after AS";
 
 const VARIABLE_FOR_BLANK: &str = "write a variable in place of the label";
 
+const ANGLE_BRACKETS: &str = "write an IRI in angle brackets, as <http://example.org/name>";
+
+const STRAIGHT_QUOTES: &str = "write a string in straight quotes, as \"text\"";
+
+const PROLOGUE: &str =
+    "a declaration has no '@' and no '.' or ';' at its end: PREFIX ex: <http://example.org/>";
+
+const QUESTION_MARK: &str = "a variable begins with '?'";
+
+const LOGIC: &str = "write && for AND, || for OR, and ! for NOT";
+
+const ONE_EQUAL: &str = "write a single '=' for equality";
+
+const NOT_EQUAL: &str = "write != for inequality";
+
+const HYPHEN_IN_TAG: &str = "a language tag has hyphens, as in @en-US";
+
+const UNION: &str = "UNION is between two groups: { .. } UNION { .. }";
+
+const DOT: &str = "write '.' between two triples";
+
 impl Hint {
     fn words(self) -> &'static str {
         match self {
@@ -163,6 +194,16 @@ impl Hint {
             Hint::WholeIri => WHOLE_IRI,
             Hint::OtherVariable => OTHER_VARIABLE,
             Hint::VariableForBlank => VARIABLE_FOR_BLANK,
+            Hint::AngleBrackets => ANGLE_BRACKETS,
+            Hint::StraightQuotes => STRAIGHT_QUOTES,
+            Hint::Prologue => PROLOGUE,
+            Hint::QuestionMark => QUESTION_MARK,
+            Hint::Logic => LOGIC,
+            Hint::OneEqual => ONE_EQUAL,
+            Hint::NotEqual => NOT_EQUAL,
+            Hint::HyphenInTag => HYPHEN_IN_TAG,
+            Hint::Union => UNION,
+            Hint::Dot => DOT,
         }
     }
 }

@@ -54,6 +54,9 @@ const WORDS: &[(&str, Hint)] = &[
     ("URI", Hint::Function),
     ("IRI", Hint::Function),
     ("BNODE", Hint::Function),
+    ("LIKE", Hint::Function),
+    ("AND", Hint::Logic),
+    ("OR", Hint::Logic),
 ];
 
 /// Returns whether the characters are those of a word, in upper or lower case.
@@ -94,6 +97,21 @@ fn is_verb_next(stack: &[Symbol]) -> bool {
     may_come(stack, Kind::Keyword(Keyword::A)) && !may_come(stack, Kind::Sign(Sign::Dot))
 }
 
+/// Returns whether an object must come.
+fn is_object_next(stack: &[Symbol]) -> bool {
+    may_come(stack, TERM) && !may_come(stack, Kind::Sign(Sign::OpenBrace))
+}
+
+/// Returns whether a declaration of the prologue may come.
+fn is_prologue_next(stack: &[Symbol]) -> bool {
+    may_come(stack, Kind::Keyword(Keyword::Prefix))
+}
+
+/// Returns whether a `.` may come, but no further triple without one.
+fn is_dot_next(stack: &[Symbol]) -> bool {
+    may_come(stack, Kind::Sign(Sign::Dot)) && !may_come(stack, TERM)
+}
+
 /// Returns whether the projection of SELECT may come.
 fn is_selection_next(stack: &[Symbol]) -> bool {
     may_come(stack, Kind::Sign(Sign::Star)) || matches!(stack.last(), Some(Symbol::Variables))
@@ -102,10 +120,12 @@ fn is_selection_next(stack: &[Symbol]) -> bool {
 /// Returns the hint for a word that is not allowed.
 fn hint_at_word(tokens: &[Token<'_>], at: usize, stack: &[Symbol]) -> Option<Hint> {
     let follows_not = at > 0 && kind_at(tokens, at - 1) == Some(Kind::Keyword(Keyword::Not));
+    let is_call = kind_at(tokens, at.saturating_add(1)) == Some(Kind::Sign(Sign::OpenParenthesis));
     match word_at(tokens, at) {
         Some(Hint::Exists) if follows_not => Some(Hint::NotExists),
         Some(hint) => Some(hint),
-        None if may_come(stack, OPERAND) => Some(Hint::Function),
+        None if is_call && may_come(stack, OPERAND) => Some(Hint::Function),
+        None if is_selection_next(stack) => Some(Hint::QuestionMark),
         None => None,
     }
 }
@@ -120,6 +140,8 @@ fn hint_at_keyword(
     let next = word_at(tokens, at.saturating_add(1));
     match keyword {
         Keyword::Not if matches!(next, Some(Hint::Exists)) => Some(Hint::NotExists),
+        Keyword::Not if may_come(stack, OPERAND) => Some(Hint::Logic),
+        Keyword::Union => Some(Hint::Union),
         Keyword::Select if may_come(stack, TERM) => Some(Hint::Subquery),
         Keyword::Values if may_end(stack) => Some(Hint::TrailingValues),
         _ => None,
@@ -150,7 +172,19 @@ fn hint_at_sign(tokens: &[Token<'_>], at: usize, stack: &[Symbol], sign: Sign) -
     match sign {
         Sign::OpenParenthesis => hint_at_open(tokens, at, stack),
         Sign::Comma if is_selection_next(stack) => Some(Hint::NoCommas),
+        Sign::Dot | Sign::Semicolon if is_prologue_next(stack) => Some(Hint::Prologue),
         Sign::Not if follows_filter(tokens, at) => { Some(Hint::Parentheses) }
+        Sign::Equal if may_come(stack, OPERAND) && follows(tokens, at, Kind::Sign(Sign::Equal)) => {
+            Some(Hint::OneEqual)
+        }
+        Sign::And
+        | Sign::Or
+        | Sign::Equal
+        | Sign::NotEqual
+        | Sign::Greater
+        | Sign::LessOrEqual
+        | Sign::GreaterOrEqual
+            if matches!(stack.last(), Some(Symbol::AfterElement)) => { Some(Hint::Parentheses) }
         Sign::Star if may_come(stack, OPERATOR) => Some(Hint::Arithmetic),
         Sign::Star if may_come(stack, TERM) => Some(Hint::Path),
         Sign::Not | Sign::Carets if is_verb_next(stack) => Some(Hint::Path),
@@ -162,10 +196,23 @@ fn hint_at_sign(tokens: &[Token<'_>], at: usize, stack: &[Symbol], sign: Sign) -
     }
 }
 
+/// Returns whether the terminal before a place is of this kind.
+fn follows(tokens: &[Token<'_>], at: usize, kind: Kind) -> bool {
+    match at.checked_sub(1) {
+        Some(before) => kind_at(tokens, before) == Some(kind),
+        None => false,
+    }
+}
+
 /// Returns whether the terminal before a place is FILTER.
 fn follows_filter(tokens: &[Token<'_>], at: usize) -> bool {
-    match at.checked_sub(1) {
-        Some(before) => kind_at(tokens, before) == Some(Kind::Keyword(Keyword::Filter)),
+    follows(tokens, at, Kind::Keyword(Keyword::Filter))
+}
+
+/// Returns whether the terminal at a place is `<>`, the empty IRI.
+fn is_empty_iri(tokens: &[Token<'_>], at: usize) -> bool {
+    match tokens.get(at) {
+        Some(token) => token.kind == Kind::IriRef && token.text.len() == 2,
         None => false,
     }
 }
@@ -185,25 +232,51 @@ pub fn hint_at(tokens: &[Token<'_>], at: usize, stack: &[Symbol]) -> Option<Hint
         Kind::Sign(sign) => hint_at_sign(tokens, at, stack, sign),
         Kind::Variable | Kind::ShortString | Kind::Integer | Kind::Decimal
             if follows_filter(tokens, at) => { Some(Hint::Parentheses) }
+        Kind::IriRef if may_come(stack, OPERATOR) && is_empty_iri(tokens, at) => {
+            Some(Hint::NotEqual)
+        }
         Kind::IriRef if may_come(stack, OPERATOR) => Some(Hint::SpaceAfterLess),
+        Kind::LanguageTag if is_prologue_next(stack) => Some(Hint::Prologue),
+        Kind::PrefixedNamespace if matches!(stack.last(), Some(Symbol::Reference)) => {
+            Some(Hint::AngleBrackets)
+        }
         Kind::SignedInteger | Kind::SignedDecimal | Kind::SignedDouble
             if may_come(stack, OPERATOR) => { Some(Hint::Arithmetic) }
+        kind if is_dot_next(stack) && begins_triple(kind) => Some(Hint::Dot),
         _ => None,
     }
 }
 
-/// Returns the hint for a character that begins no terminal, with these symbols on the stack.
-pub fn hint_at_char(c: char, stack: &[Symbol]) -> Option<Hint>
+/// Returns whether a terminal of this kind may begin a triple.
+fn begins_triple(kind: Kind) -> bool {
+    matches!(
+        kind,
+        Kind::Variable | Kind::IriRef | Kind::PrefixedName | Kind::BlankLabel | Kind::Anonymous
+    )
+}
+
+/// Returns the hint for a character that begins no terminal, with these symbols on the stack, after these terminals and
+/// before these characters.
+pub fn hint_at_char(
+    tokens: &[Token<'_>],
+    c: char,
+    after: &[char],
+    stack: &[Symbol],
+) -> Option<Hint>
     ensures mark { c ≡ 0xFEFF → result ≡ Some ByteOrderMark }
     ensures other { c ≢ 0xFEFF → result ≢ Some ByteOrderMark }
 {
     match c {
         '[' => Some(Hint::PropertyList),
         '\u{FEFF}' => Some(Hint::ByteOrderMark),
+        '/' if after.first().copied() == Some('/') => Some(Hint::AngleBrackets),
         '+' | '-' | '/' if may_come(stack, OPERATOR) || may_come(stack, OPERAND) => {
             Some(Hint::Arithmetic)
         }
-        '+' | '/' | '^' | '|' | '?' => Some(Hint::Path),
+        '^' if is_verb_next(stack) => Some(Hint::Path),
+        '+' | '/' | '|' | '?' if is_object_next(stack) => Some(Hint::Path),
+        '_' if follows(tokens, tokens.len(), Kind::LanguageTag) => Some(Hint::HyphenInTag),
+        '“' | '”' | '‘' | '’' => Some(Hint::StraightQuotes),
         _ => None,
     }
 }

@@ -50,6 +50,11 @@ spq: line 1, column 2: the input looks like UTF-16; N-Quads is UTF-8
  ^
 hint: convert it: iconv -f UTF-16 -t UTF-8 FILE | spq check
 
+‹00›‹00›‹00›
+spq: line 1, column 1: expected a subject (an IRI or a blank node), found U+0000
+␀␀␀
+^
+
 ‹1F›‹8B›‹08›
 spq: line 1, byte 1: the input looks like gzip
 ␟�␈

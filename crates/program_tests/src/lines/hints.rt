@@ -26,6 +26,30 @@ spq: line 1, column 2: an IRI must begin with a scheme, such as 'http:', found '
  ^
 hint: this looks like HTML; spq reads N-Quads
 
+<rdf:RDF xmlns:rdf="http://e/rdf#">
+spq: line 1, column 9: a space is not allowed in an IRI
+<rdf:RDF xmlns:rdf="http://e/rdf#">
+        ^
+hint: this looks like XML; spq reads N-Quads
+
+  xmlns:dc="http://e/dc#">
+spq: line 1, column 3: expected a subject (an IRI or a blank node), found 'x'
+  xmlns:dc="http://e/dc#">
+  ^
+hint: this looks like XML; spq reads N-Quads
+
+<dc:title>Title</dc:title>
+spq: line 1, column 11: expected a predicate (an IRI), found 'T'
+<dc:title>Title</dc:title>
+          ^
+hint: this looks like XML; spq reads N-Quads
+
+</rdf:RDF>
+spq: line 1, column 2: an IRI must begin with a scheme, such as 'http:', found '/'
+</rdf:RDF>
+ ^
+hint: this looks like XML; spq reads N-Quads
+
 <htmlx> <a:p> <a:o> .
 spq: line 1, column 7: an IRI must begin with a scheme, such as 'http:', found '>'
 <htmlx> <a:p> <a:o> .
@@ -75,6 +99,7 @@ http://e/a <a:p> <a:o> .
 spq: line 1, column 1: expected a subject (an IRI or a blank node), found 'h'
 http://e/a <a:p> <a:o> .
 ^
+hint: write an IRI in angle brackets, as <http://example.org/name>
 
 and ends here, so to say (in ex:a) " .
 spq: line 1, column 1: expected a subject (an IRI or a blank node), found 'a'
@@ -238,6 +263,11 @@ spq: line 69, byte 17: invalid UTF-8: byte 0xE9
 <a:s> <a:p> "caf�" .
                 ^
 hint: if the input is Latin-1 or Windows-1252, convert it: iconv -f CP1252 -t UTF-8 FILE | spq check
+
+‹EC›‹14›*
+spq: line 69, byte 1: invalid UTF-8: byte 0xEC
+�␔*
+^
 
 <<<<<<< HEAD
 spq: line 69, column 2: '<<': quoted triples (RDF-star) are not supported

@@ -9,25 +9,53 @@ spq: line 1, column 12: a space is not allowed in an IRI
            ^
 hint: write a space in an IRI as %20
 
+<http://e/s <a:p> <a:o> .
+spq: line 1, column 12: a space is not allowed in an IRI
+<http://e/s <a:p> <a:o> .
+           ^
+hint: an IRI ends with '>': is it missing here?
+
+<a:s> <a:p "x" .
+spq: line 1, column 11: a space is not allowed in an IRI
+<a:s> <a:p "x" .
+          ^
+hint: an IRI ends with '>': is it missing here?
+
+<a:s> <a:p> <a:o .
+spq: line 1, column 17: a space is not allowed in an IRI
+<a:s> <a:p> <a:o .
+                ^
+hint: an IRI ends with '>': is it missing here?
+
+<a:‹09›b> <a:p> <a:o> .
+spq: line 1, column 4: a tab is not allowed in an IRI
+<a:␉b> <a:p> <a:o> .
+   ^
+hint: write a tab in an IRI as %09
+
 <a:s> <a:p> <a:{x}> .
 spq: line 1, column 16: '{' is not allowed in an IRI
 <a:s> <a:p> <a:{x}> .
                ^
+hint: write '{' in an IRI as %7B
 
 <a:s> <a:"p> <a:o> .
 spq: line 1, column 10: '"' is not allowed in an IRI
 <a:s> <a:"p> <a:o> .
          ^
+hint: write '"' in an IRI as %22
 
 <a:s> <a:p> <a:<o> .
 spq: line 1, column 16: '<' is not allowed in an IRI
 <a:s> <a:p> <a:<o> .
                ^
+hint: an IRI ends with '>': is it missing here?
 
 <a:^> <a:p> <a:o> .
 spq: line 1, column 4: '^' is not allowed in an IRI
 <a:^> <a:p> <a:o> .
    ^
+hint: write '^' in an IRI as %5E
 
 <a:\u0020> <a:p> <a:o> .
 spq: line 1, column 9: this escape is for a character that is not allowed here in an IRI

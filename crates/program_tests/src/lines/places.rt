@@ -88,11 +88,13 @@ spq: line 1, column 6: expected a predicate (an IRI), found '='
 spq: line 1, column 6: expected a predicate (an IRI), found U+00A0
 <a:s>‹C2›‹A0›<a:p> <a:o> .
      ^
+hint: only spaces and tabs may be between terms
 
 <a:s>‹0C›<a:p> <a:o> .
 spq: line 1, column 6: expected a predicate (an IRI), found U+000C
 <a:s>␌<a:p> <a:o> .
      ^
+hint: only spaces and tabs may be between terms
 
 <a:s> <a:p> .
 spq: line 1, column 13: missing object: expected an IRI, a blank node or a literal, found '.'
@@ -133,6 +135,24 @@ spq: line 1, column 13: expected an object (an IRI, a blank node or a literal), 
             ^
 hint: this looks like Turtle; N-Quads has no prefixes and no abbreviations: write each term in full
 
+<a:p> <a:o> ;
+spq: line 1, column 13: expected an object (an IRI, a blank node or a literal), found ';'
+<a:p> <a:o> ;
+            ^
+hint: this looks like Turtle; N-Quads has no prefixes and no abbreviations: write each term in full
+
+<a:s> <a:p> “x” .
+spq: line 1, column 13: expected an object (an IRI, a blank node or a literal), found '“'
+<a:s> <a:p> “x” .
+            ^
+hint: write a literal in straight double quotes, as "text"
+
+<a:s> <a:p> http://e/o .
+spq: line 1, column 13: expected an object (an IRI, a blank node or a literal), found 'h'
+<a:s> <a:p> http://e/o .
+            ^
+hint: write an IRI in angle brackets, as <http://example.org/name>
+
 <a:s><a:p>, <a:o> .
 spq: line 1, column 11: expected an object (an IRI, a blank node or a literal), found ','
 <a:s><a:p>, <a:o> .
@@ -142,7 +162,7 @@ spq: line 1, column 11: expected an object (an IRI, a blank node or a literal), 
 spq: line 1, column 13: expected an object (an IRI, a blank node or a literal), found '''
 <a:s> <a:p> 'x' .
             ^
-hint: write a literal in double quotes
+hint: write a literal in straight double quotes, as "text"
 
 <a:s> <a:p> <a:o>
 spq: line 1, column 18: missing '.' at the end of the statement
@@ -213,6 +233,18 @@ spq: line 1, column 19: expected '.' or a graph name (an IRI or a blank node), f
                   ^
 hint: write a double quote inside a literal as \"
 
+<a:s> <a:p> "say ""hi""" .
+spq: line 1, column 19: a graph name must be an IRI or a blank node, found a literal
+<a:s> <a:p> "say ""hi""" .
+                  ^
+hint: write a double quote inside a literal as \"
+
+<a:s> <a:p> """x""" .
+spq: line 1, column 15: a graph name must be an IRI or a blank node, found a literal
+<a:s> <a:p> """x""" .
+              ^
+hint: this looks like Turtle; N-Quads has no prefixes and no abbreviations: write each term in full
+
 <a:s> <a:p> <a:o> <a:g> <a:h> .
 spq: line 1, column 25: expected '.' after the graph name, found an IRI
 <a:s> <a:p> <a:o> <a:g> <a:h> .
@@ -232,11 +264,13 @@ spq: line 1, column 25: expected '.' after the graph name, found a literal
 spq: line 1, column 21: text after the '.' that ends the statement: found an IRI
 <a:s> <a:p> <a:o> . <a:s>
                     ^
+hint: write each statement on a line of its own
 
 <a:s> <a:p> <a:o> . _:b
 spq: line 1, column 21: text after the '.' that ends the statement: found a blank node
 <a:s> <a:p> <a:o> . _:b
                     ^
+hint: write each statement on a line of its own
 
 <a:s> <a:p> <a:o> ..
 spq: line 1, column 20: text after the '.' that ends the statement: found '.'

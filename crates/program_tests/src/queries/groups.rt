@@ -26,6 +26,7 @@ SELECT * { ?s ?p ?o ?q }
 spq: query, line 1, column 21: expected '{', '}', '.', ';', ',' or a pattern (such as OPTIONAL or FILTER), found '?q'
 SELECT * { ?s ?p ?o ?q }
                     ^
+hint: write '.' between two triples
 
 SELECT * { ?s ?p ?o ; ?q }
 spq: query, line 1, column 26: expected a term (an IRI, a prefixed name, a variable, a blank node or a literal), found '}'

@@ -248,6 +248,100 @@ INSERT DATA { <a:s> <a:p> <a:o> }
 ^
 hint: updates are not supported; spq only reads
 
+SELECT s { ?s ?p ?o }
+spq: query, line 1, column 8: expected a variable, '*' or DISTINCT, found 's'
+SELECT s { ?s ?p ?o }
+       ^
+hint: a variable begins with '?'
+
+SELECT ? { ?s ?p ?o }
+spq: query, line 1, column 8: expected a variable, '*' or DISTINCT, found '?'
+SELECT ? { ?s ?p ?o }
+       ^
+
+SELECT * { ?s http://e/p ?o }
+spq: query, line 1, column 20: expected a term (an IRI, a prefixed name, a variable, a blank node or a literal), found '/'
+SELECT * { ?s http://e/p ?o }
+                   ^
+hint: write an IRI in angle brackets, as <http://example.org/name>
+
+SELECT * { ?s ?p ?o FILTER(?o = http://e/p) }
+spq: query, line 1, column 38: expected an operator (such as '=' or '&&') or ')', found '/'
+SELECT * { ?s ?p ?o FILTER(?o = http://e/p) }
+                                     ^
+hint: write an IRI in angle brackets, as <http://example.org/name>
+
+PREFIX e: http://e/ SELECT * { }
+spq: query, line 1, column 11: expected an IRI, found 'http:'
+PREFIX e: http://e/ SELECT * { }
+          ^
+hint: write an IRI in angle brackets, as <http://example.org/name>
+
+@prefix e: <http://e/> . SELECT * { }
+spq: query, line 1, column 1: expected PREFIX or SELECT, found '@prefix'
+@prefix e: <http://e/> . SELECT * { }
+^
+hint: a declaration has no '@' and no '.' or ';' at its end: PREFIX ex: <http://example.org/>
+
+PREFIX e: <http://e/> . SELECT * { }
+spq: query, line 1, column 23: expected PREFIX or SELECT, found '.'
+PREFIX e: <http://e/> . SELECT * { }
+                      ^
+hint: a declaration has no '@' and no '.' or ';' at its end: PREFIX ex: <http://example.org/>
+
+SELECT * { ?s ?p “x” }
+spq: query, line 1, column 18: expected a term (an IRI, a prefixed name, a variable, a blank node or a literal), found '“'
+SELECT * { ?s ?p “x” }
+                 ^
+hint: write a string in straight quotes, as "text"
+
+SELECT * { ?s ?p "x"@en_US }
+spq: query, line 1, column 24: expected '{', '}', '.', ';', ',' or a pattern (such as OPTIONAL or FILTER), found '_'
+SELECT * { ?s ?p "x"@en_US }
+                       ^
+hint: a language tag has hyphens, as in @en-US
+
+SELECT * { ?s ?p ?o FILTER(?o == 1) }
+spq: query, line 1, column 32: expected an expression, found '='
+SELECT * { ?s ?p ?o FILTER(?o == 1) }
+                               ^
+hint: write a single '=' for equality
+
+SELECT * { ?s ?p ?o FILTER(?o <> 1) }
+spq: query, line 1, column 31: expected an operator (such as '=' or '&&') or ')', found '<>'
+SELECT * { ?s ?p ?o FILTER(?o <> 1) }
+                              ^
+hint: write != for inequality
+
+SELECT * { ?s ?p ?o FILTER(?o > 1 AND ?o < 9) }
+spq: query, line 1, column 35: expected '&&', '||' or ')', found 'AND'
+SELECT * { ?s ?p ?o FILTER(?o > 1 AND ?o < 9) }
+                                  ^
+hint: write && for AND, || for OR, and ! for NOT
+
+SELECT * { ?s ?p ?o FILTER(NOT BOUND(?s)) }
+spq: query, line 1, column 28: expected an expression, found 'NOT'
+SELECT * { ?s ?p ?o FILTER(NOT BOUND(?s)) }
+                           ^
+hint: write && for AND, || for OR, and ! for NOT
+
+SELECT * { ?s ?p ?o FILTER(?o = NULL) }
+spq: query, line 1, column 33: expected an expression, found 'NULL'
+SELECT * { ?s ?p ?o FILTER(?o = NULL) }
+                                ^
+
+SELECT * { ?s ?p ?o FILTER(BOUND(?s)) && BOUND(?o) }
+spq: query, line 1, column 39: expected a term (an IRI, a prefixed name, a variable, a blank node or a literal), '{', '}', '.' or a pattern (such as OPTIONAL or FILTER), found '&&'
+SELECT * { ?s ?p ?o FILTER(BOUND(?s)) && BOUND(?o) }
+                                      ^
+hint: put the condition in parentheses, as in FILTER (!BOUND(?x))
+
+SELECT * { ?s ?p ?o UNION { ?s ?p ?o } }
+spq: query, line 1, column 21: expected '{', '}', '.', ';', ',' or a pattern (such as OPTIONAL or FILTER), found 'UNION'
+SELECT * { ?s ?p ?o UNION { ?s ?p ?o } }
+                    ^
+hint: UNION is between two groups: { .. } UNION { .. }
+
 DELETE WHERE { ?s ?p ?o }
 spq: query, line 1, column 1: expected PREFIX or SELECT, found 'DELETE'
 DELETE WHERE { ?s ?p ?o }

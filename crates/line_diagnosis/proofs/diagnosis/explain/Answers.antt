@@ -1,23 +1,27 @@
-use Rattle.std.proofs.Common.{take, refl, arith}
+use Rattle.std.proofs.Common.{take, refl, sym, subst, arith}
 use Rattle.std.proofs.lemmas.List.{length-take-le}
-use Rattle.line_diagnosis.proofs.FrontLaws.{explained_of, walk_place}
+use Rattle.line_diagnosis.specs.Reasons.{IsReason}
+use Rattle.line_diagnosis.proofs.FrontLaws.{explained_of, walk_place, walk_reason}
 use Rattle.line_diagnosis.proofs.diagnosis.explain.Goals as goal
 
 pub slice_bounds-placed-end : goal.slice_bounds-placed-end
 slice_bounds-placed-end c =
-    let p = walk_place c.args.line.now c.text_of-broken.result.0.now c.read_front-walk.result c.text_of-broken.ensures c.read_front-walk.ensures in
+    let p = walk_place c.args.line.now c.text_of-broken.result.0.now c.read_front-walk.result c.text_of-broken.ensures.longest c.read_front-walk.ensures in
     omega (arith, p.in_line, length-take-le c.read_front-walk.result.offset c.args.line.now p.in_line)
 
 pub placed-requires-clause-utf8 : goal.placed-requires-clause-utf8
 placed-requires-clause-utf8 c =
-    let p = walk_place c.args.line.now c.text_of-broken.result.0.now c.read_front-walk.result c.text_of-broken.ensures c.read_front-walk.ensures in
+    let p = walk_place c.args.line.now c.text_of-broken.result.0.now c.read_front-walk.result c.text_of-broken.ensures.longest c.read_front-walk.ensures in
     p.characters
 
 pub returns : goal.returns
 returns c =
     let line = c.args.line.now in
+    let text = c.text_of-broken.result.0.now in
     let w = c.read_front-walk.result in
+    let first = walk_reason line text w c.text_of-broken.result.1 c.reason_of.result c.text_of-broken.ensures.longest c.text_of-broken.ensures.broken c.read_front-walk.ensures c.reason_of.ensures in
+    let reason = subst (IsReason line w.offset) (sym c.placed.ensures.reason) (c.refined-reason.ensures first) in
     record {
-      explained = explained_of line c.text_of-broken.result.0.now (take w.offset line) w c.placed.result c.text_of-broken.ensures c.read_front-walk.ensures refl c.placed.ensures.offset
+      explained = explained_of line text (take w.offset line) w c.placed.result c.text_of-broken.ensures.longest c.read_front-walk.ensures reason refl c.placed.ensures.offset
           c.placed.ensures.column c.placed.ensures.characters c.placed.ensures.bytes;
     }

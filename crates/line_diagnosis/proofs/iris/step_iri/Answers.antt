@@ -1,29 +1,28 @@
 use Rattle.std.proofs.Common.{◌≡◌, ◌∙◌, ℕ, false, sym, subst}
 use Rattle.rdf_core.specs.Characters.{in_ranges}
 use Rattle.line_diagnosis.specs.Rest.{Accepts, is_head}
-use Rattle.line_diagnosis.specs.declared.state.Scheme.TheVariants as scheme
 use Rattle.line_diagnosis.specs.declared.state.State.TheVariants as state
 use Rattle.line_diagnosis.proofs.IriSteps.{iri_backslash, iri_closes_at, iri_goes_at, iri_stops}
 use Rattle.line_diagnosis.proofs.LabelSteps.{at_char}
 use Rattle.line_diagnosis.proofs.iris.step_iri.Goals as goal
 use Rattle.line_diagnosis.proofs.iris.step_iri.Goals.{else-c-eq62-via-then-c-eq62+else-matches, in-Read, in_default, else-c-eq62-via-else-c-eq62}
 
-pub returns-then-c-eq92 : goal.returns-then-c-eq92
-returns-then-c-eq92 c = at_char (Accepts (state.Iri c.args.part c.args.scheme)) c.args.c 92 _ c.if-c-eq92.true (iri_backslash c.args.part c.args.scheme)
+pub returns-then-c-eq92-clause-steps : goal.returns-then-c-eq92-clause-steps
+returns-then-c-eq92-clause-steps c = at_char (Accepts (state.Iri c.args.part c.args.scheme)) c.args.c 92 _ c.if-c-eq92.true (iri_backslash c.args.part c.args.scheme)
 
-pub returns-then-matches : goal.returns-then-matches
-returns-then-matches c = elim c.match-matches.branch [
+pub returns-then-matches-clause-steps : goal.returns-then-matches-clause-steps
+returns-then-matches-clause-steps c = elim c.match-matches.branch [
   | in-Read w ↦ iri_closes_at c.args.part c.args.scheme c.args.c c.after.result w.in-Read.is c.if-c-eq62.true c.after.ensures
   | in_default w ↦ absurd cc
 ]
 
-pub returns-then-is_head : goal.returns-then-is_head
-returns-then-is_head c =
+pub returns-then-is_head-clause-steps : goal.returns-then-is_head-clause-steps
+returns-then-is_head-clause-steps c =
     iri_goes_at c.args.part c.args.scheme c.scheme_after.result c.iri_ranges.result.now c.args.c c.from-code.result c.from-code.ensures c.iri_ranges.ensures.ranges
     (sym c.is_head.ensures ∙ c.if-is_head.true) c.scheme_after.ensures
 
-pub returns : goal.returns
-returns c =
+pub returns-clause-steps : goal.returns-clause-steps
+returns-clause-steps c =
     let h = sym c.is_head.ensures ∙ c.if-is_head.false in
     let same : is_head c.iri_ranges.result.now 0 c.args.c ≡ false = subst (λ (x : ℕ). is_head c.iri_ranges.result.now 0 x ≡ false) c.from-code.ensures h in
     let none : in_ranges c.iri_ranges.result.now c.args.c ≡ false = same in
@@ -36,3 +35,6 @@ returns c =
       | else-c-eq62-via-else-c-eq62 w ↦ w.if-c-eq62.false e
     ])
     c.ranges.c.0 (sym (c.iri_ranges.ensures.ranges.same c.args.c) ∙ none)
+
+pub returns-clause-says : goal.returns-clause-says
+returns-clause-says c = c.reason_of.ensures c.args.part

@@ -1,4 +1,4 @@
-use Rattle.std.proofs.Common.{◌≡◌, ap, ◌∙◌}
+use Rattle.std.proofs.Common.{ap, ◌∙◌}
 use Rattle.std.proofs.lemmas.Str.Ascii.{trim_ascii_start_is}
 use Rattle.line_diagnosis.specs.Likeness.{is_html_text}
 use Rattle.line_diagnosis.proofs.likeness.is_html.Goals as goal

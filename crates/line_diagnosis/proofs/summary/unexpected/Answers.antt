@@ -1,4 +1,4 @@
-use Rattle.std.proofs.Common.{◌≡◌, refl, sym, ap, inl, inr}
+use Rattle.std.proofs.Common.{refl, sym, ap, inl, inr}
 use Rattle.line_diagnosis.specs.declared.reason.Next.{Next}
 use Rattle.line_diagnosis.specs.declared.reason.Reason.TheVariants.{Unexpected}
 use Rattle.line_diagnosis.proofs.summary.unexpected.Goals as goal

@@ -5,11 +5,11 @@ use Rattle.line_diagnosis.proofs.LabelSteps.{at_char}
 use Rattle.line_diagnosis.proofs.TagSteps.{subtag_ends, subtag_hyphen, subtag_step}
 use Rattle.line_diagnosis.proofs.tags.step_subtag.Goals as goal
 
-pub returns-then-is_ascii_alphanumeric : goal.returns-then-is_ascii_alphanumeric
-returns-then-is_ascii_alphanumeric c = subtag_step c.args.c (sym c.if-is_ascii_alphanumeric.ensures.value)
+pub returns-then-is_ascii_alphanumeric-clause-steps : goal.returns-then-is_ascii_alphanumeric-clause-steps
+returns-then-is_ascii_alphanumeric-clause-steps c = subtag_step c.args.c (sym c.if-is_ascii_alphanumeric.ensures.value)
 
-pub returns-then-c-eq45 : goal.returns-then-c-eq45
-returns-then-c-eq45 c = at_char (Accepts state.Subtag) c.args.c 45 state.Hyphen c.if-c-eq45.true subtag_hyphen
+pub returns-then-c-eq45-clause-steps : goal.returns-then-c-eq45-clause-steps
+returns-then-c-eq45-clause-steps c = at_char (Accepts state.Subtag) c.args.c 45 state.Hyphen c.if-c-eq45.true subtag_hyphen
 
-pub returns-else-c-eq45 : goal.returns-else-c-eq45
-returns-else-c-eq45 c = subtag_ends c.args.c c.step_between.result (sym c.if-is_ascii_alphanumeric.ensures.value) c.if-c-eq45.false c.step_between.ensures
+pub returns-else-c-eq45-clause-steps : goal.returns-else-c-eq45-clause-steps
+returns-else-c-eq45-clause-steps c = subtag_ends c.args.c c.step_between.result (sym c.if-is_ascii_alphanumeric.ensures.value) c.if-c-eq45.false c.step_between.ensures.steps

@@ -5,6 +5,6 @@ use Rattle.malformed_lines.proofs.piece_list.PieceList.add_malformed.Goals as go
 
 pub returns-clause-listed : goal.returns-clause-listed
 returns-clause-listed c = λ before h m x.
-    let one = named_here before c.args.line.now c.args.self.now c.args.diagnosis.now _ h m x refl refl refl in
+    let one = named_here before c.args.line.now c.args.self.now c.args.diagnosis.now _ h m x refl refl refl c.summary.ensures.same in
     let names = c.in_ok-add.ensures.named 0 (before ++ c.args.line.now ∷ []) (named_still 0 before (c.args.line.now ∷ []) _ h.named) one in
     one_malformed before c.args.line.now c.args.self.now _ h m c.in_ok-keep.ensures.kept names refl refl

@@ -13,4 +13,4 @@ returns-then-place-len-clause-total c =
 
 pub returns-then-place-len-clause-named : goal.returns-then-place-len-clause-named
 returns-then-place-len-clause-named c = λ n lines h one.
-    named_grows c.args.self.now.counts.items c.place_of-place.result c.index_mut.result.now _ n lines (omega arith) c.index_mut.ensures.value refl refl refl h
+    named_grows c.args.self.now.counts.items c.place_of-place.result c.index_mut.result.now _ n lines (omega arith) c.index_mut.ensures.value refl refl refl refl h
