@@ -1,56 +1,34 @@
 -- The counts of the partitions are those of the document.
-use Rattle.std.proofs.Common.{◌≡◌, ℕ, ◌<◌, ◌%◌, Bool, true, false, cond, not, ◌&&◌, ◌||◌, List, [], ◌∷◌, ◌++◌, length, map, filter, Option, Some, None, refl, sym, ap, subst, ◌∙◌, inr}
-use Rattle.std.proofs.lemmas.List.{length-map}
-use Rattle.std.specs.Prelude.{codes, filter_map}
+use Rattle.std.proofs.Common.{◌≡◌, ℕ, ◌<◌, ◌%◌, Bool, true, false, ◌&&◌, ◌||◌, List, [], ◌∷◌, ◌++◌, length, map, filter, Option, Some, None, refl, sym, ap, ◌∙◌, inr}
+use Rattle.std.proofs.lemmas.List.{length-map, map-append}
+use Rattle.std.specs.Prelude.{filter_map}
 use Rattle.std.specs.List.{flat_map, list_any, cons_option}
+use Rattle.std.specs.Str.{bytes_eq}
 use Rattle.std.proofs.lemmas.Nat.{mod_below}
 use Rattle.std.proofs.lemmas.Grind.{flat_map-append}
 use Rattle.std.proofs.lemmas.List.Elements.{filter_map-append}
 use Rattle.std.proofs.lemmas.List.Folds.{list_any-append}
 use Rattle.rdf_core.specs.declared.term.Term.{Term}
-use Rattle.rdf_core.specs.declared.term.Term.TheVariants.{Iri}
 use Rattle.rdf_core.specs.QuadParts.{QuadParts}
+use Rattle.rdf_core.specs.Serialization.{serialization}
 use Rattle.rdf_core.proofs.TermLaws.{term_eq, term_decides}
 use Rattle.nquads_core.specs.Lines.{lines}
-use Rattle.nquads_core.specs.Pieces.{HaveStatements}
-use Rattle.nquads_core.specs.Laws.{IsNQuadsTerm, with_object}
+use Rattle.nquads_core.specs.Laws.{IsNQuadsTerm}
 use Rattle.dict_core.specs.Appearances.{terms_of, terms_of_quad, first_appearances, differs_from}
 use Rattle.dict_core.specs.Numbered.{joined}
 use Rattle.algebra_model.specs.Bag.{without_repeats}
 use Rattle.algebra_model.proofs.RepeatLaws.{any-without_repeats_is}
-use Rattle.quad_index.specs.Laws.{same_parts}
 use Rattle.cluster_parts.specs.Hash.{term_hash}
-use Rattle.cluster_parts.specs.Seal.{joined_texts}
-use Rattle.cluster_parts.specs.Parts.{is_in, term_document, term_statement, terms_in}
-use Rattle.cluster_parts.specs.Output.{IsCountOf}
-use Rattle.cluster_parts.specs.Laws.{NamesAddUp, TermsAddUp}
-use Rattle.cluster_parts.specs.Sums.{sum_below}
+use Rattle.cluster_parts.specs.Parts.{is_in, terms_in}
+use Rattle.cluster_parts.specs.Terms.{term_lines}
+use Rattle.cluster_parts.specs.Output.{distinct_lines}
+use Rattle.cluster_parts.specs.Laws.{NamesAddUp, TermsAddUp, partition_terms}
+use Rattle.quad_index.specs.Parts.{sum_below}
 use Rattle.cluster_parts.proofs.Each.{Each, Each-filter, Each-flat_map, Each-without_repeats}
-use Rattle.cluster_parts.proofs.DocumentLaws.{IsOfLine, block_quads, one_reading, terms_of_lines, terms_read}
-use Rattle.cluster_parts.proofs.SetCounts.{any-filter_is, parts_add_up, sum_below-same}
+use Rattle.cluster_parts.proofs.DocumentLaws.{IsOfLine, block_quads, form_eq, lines_of_terms, terms_of_lines}
+use Rattle.cluster_parts.proofs.SetCounts.{any-filter_is, parts_add_up, sum_below-same, without_repeats-map}
 
 -- ---- lists
-
-pub map-filter : {X Y : Type 0} (f : X → Y) (p : Y → Bool) (xs : List X) → filter p (map f xs) ≡ map f (filter (λ x. p (f x)) xs)
-map-filter f p [] = refl
-map-filter f p (x ∷ xs) = by (p (f x)) (map-filter f p xs)
-  where
-    by : (b : Bool) → filter p (map f xs) ≡ map f (filter (λ x. p (f x)) xs) → cond b (f x ∷ filter p (map f xs)) (filter p (map f xs)) ≡ map f (cond b (x ∷ filter (λ x. p (f x)) xs) (filter (λ x. p (f x)) xs))
-    by true e = ap (λ l. f x ∷ l) e
-    by false e = e
-
--- a one-to-one function, applied to the distinct elements
-pub without_repeats-map : {X Y : Type 0} (same : X → X → Bool) (same' : Y → Y → Bool) (f : X → Y) → ((x y : X) → same' (f x) (f y) ≡ same x y) → (xs : List X)
-    → without_repeats same' (map f xs) ≡ map f (without_repeats same xs)
-without_repeats-map same same' f h [] = refl
-without_repeats-map same same' f h (x ∷ xs) =
-    ap (λ l. f x ∷ l) (ap (λ l. filter (λ y. not (same' (f x) y)) l) (without_repeats-map same same' f h xs)
-    ∙ map-filter f (λ y. not (same' (f x) y)) (without_repeats same xs)
-    ∙ ap (λ (p : _ → Bool). map f (filter p (without_repeats same xs))) (λ i y. not (h x y i)))
-
-pub joined-map : {X Y : Type 0} (f : X → List Y) (g : Y → List ℕ) (xs : List X) → joined_texts (map (λ x. flat_map g (f x)) xs) ≡ flat_map g (flat_map f xs)
-joined-map f g [] = refl
-joined-map f g (x ∷ xs) = ap (λ l. flat_map g (f x) ++ l) (joined-map f g xs) ∙ sym (flat_map-append g (f x) (flat_map f xs))
 
 pub flat_map-joined : {X Y : Type 0} (f : X → List Y) (xs : List (List X)) → flat_map f (flat_map (λ l. l) xs) ≡ flat_map (λ l. flat_map f l) xs
 flat_map-joined f [] = refl
@@ -93,33 +71,31 @@ module _ (found : List QuadParts → List Term) where
   spread_adds_up k quads some =
       parts_add_up term_eq term_decides (λ t. term_hash t % k) k (λ t. mod_below (term_hash t) k some) (flat_map found quads) (spread k quads) (λ n t. spread_any k n t quads)
 
-  -- the document that the blocks have for a partition
-  abbrev document : ℕ → List (List QuadParts) → ℕ → List ℕ
-  document k quads n = joined_texts (map (λ qs. term_document (terms_in k n (without_repeats term_eq (found qs)))) quads)
+  -- the lists that the blocks have for a partition
+  abbrev listed : ℕ → List (List QuadParts) → ℕ → List (List ℕ)
+  listed k quads n = map (λ qs. term_lines (terms_in k n (without_repeats term_eq (found qs)))) quads
 
-  same_object : (t u : Term) → same_parts (with_object t) (with_object u) ≡ term_eq t u
-  same_object t u = (λ i. (term_decides a a).1 refl i && ((term_decides a a).1 refl i && term_eq t u))
-    where
-      a : Term
-      a = Iri (codes "a:")
+  spread_good : (k : ℕ) (n : ℕ) (qs : List QuadParts) → Each IsNQuadsTerm (found qs) → Each IsNQuadsTerm (terms_in k n (without_repeats term_eq (found qs)))
+  spread_good k n qs h = Each-filter IsNQuadsTerm (λ t. is_in k n (term_hash t)) (without_repeats term_eq (found qs)) (Each-without_repeats IsNQuadsTerm term_eq (found qs) h)
 
-  counted : (k : ℕ) (quads : List (List QuadParts)) (n count : ℕ) → Each (λ qs. Each IsNQuadsTerm (found qs)) quads
-      → IsCountOf (document k quads n) count → count ≡ length (without_repeats term_eq (spread k quads n))
-  counted k quads n count good c =
-      let texts = spread k quads n in
-      let all : Each IsNQuadsTerm texts = Each-flat_map (λ qs. Each IsNQuadsTerm (found qs)) IsNQuadsTerm (λ qs. terms_in k n (without_repeats term_eq (found qs)))
-      (λ qs h. Each-filter IsNQuadsTerm (λ t. is_in k n (term_hash t)) (without_repeats term_eq (found qs)) (Each-without_repeats IsNQuadsTerm term_eq (found qs) h)) quads good in
-      let whole : document k quads n ≡ term_document texts = joined-map (λ qs. terms_in k n (without_repeats term_eq (found qs))) term_statement quads in
-      let read : c.quads ≡ map with_object texts = one_reading (lines (term_document texts)) c.quads (map with_object texts)
-      (subst (λ d. HaveStatements (lines d) c.quads) whole c.statements) (terms_read texts all) in
-      c.counted ∙ ap (λ l. length (without_repeats same_parts l)) read
-      ∙ ap length (without_repeats-map term_eq same_parts with_object same_object texts)
-      ∙ length-map (without_repeats term_eq texts) with_object
+  lines_listed : (k : ℕ) (quads : List (List QuadParts)) (n : ℕ) → Each (λ qs. Each IsNQuadsTerm (found qs)) quads → flat_map lines (listed k quads n) ≡ map serialization (spread k quads n)
+  lines_listed k [] n good = refl
+  lines_listed k (qs ∷ quads) n good =
+      let ts = terms_in k n (without_repeats term_eq (found qs)) in
+      (λ i. lines_of_terms ts (spread_good k n qs good.0) i ++ lines_listed k quads n good.1 i) ∙ sym (map-append serialization ts (spread k quads n))
 
-  add_up : (k : ℕ) (quads : List (List QuadParts)) (counts : ℕ → ℕ) → 0 < k → Each (λ qs. Each IsNQuadsTerm (found qs)) quads
-      → ((n : ℕ) → IsCountOf (document k quads n) (counts n)) → sum_below counts k ≡ length (without_repeats term_eq (flat_map found quads))
-  add_up k quads counts some good c =
-      sum_below-same counts (λ n. length (without_repeats term_eq (spread k quads n))) (λ n. counted k quads n (counts n) good (c n)) k ∙ spread_adds_up k quads some
+  counted : (k : ℕ) (quads : List (List QuadParts)) (n : ℕ) → Each (λ qs. Each IsNQuadsTerm (found qs)) quads → distinct_lines (listed k quads n) ≡ length (without_repeats term_eq (spread k quads n))
+  counted k quads n good =
+      let terms = spread k quads n in
+      let all : Each IsNQuadsTerm terms = Each-flat_map (λ qs. Each IsNQuadsTerm (found qs)) IsNQuadsTerm (λ qs. terms_in k n (without_repeats term_eq (found qs))) (λ qs h. spread_good k n qs h) quads good in
+      ap (λ l. length (without_repeats bytes_eq l)) (lines_listed k quads n good)
+      ∙ ap length (without_repeats-map IsNQuadsTerm term_eq bytes_eq serialization form_eq terms all)
+      ∙ length-map (without_repeats term_eq terms) serialization
+
+  add_up : (k : ℕ) (quads : List (List QuadParts)) → 0 < k → Each (λ qs. Each IsNQuadsTerm (found qs)) quads
+      → sum_below (λ n. distinct_lines (listed k quads n)) k ≡ length (without_repeats term_eq (flat_map found quads))
+  add_up k quads some good =
+      sum_below-same (λ n. distinct_lines (listed k quads n)) (λ n. length (without_repeats term_eq (spread k quads n))) (λ n. counted k quads n good) k ∙ spread_adds_up k quads some
 
 -- ---- the laws
 
@@ -140,13 +116,14 @@ each_names [] h = tt
 each_names (qs ∷ quads) h = (names_of_lines qs h.0, each_names quads h.1)
 
 pub terms_add_up : TermsAddUp
-terms_add_up k blocks quads counts some h c =
-    add_up terms_of k quads counts some (each_terms quads (block_quads blocks quads h.statements))
-    (λ n. subst (λ (f : List Term → List Term). IsCountOf (joined_texts (map (λ qs. term_document (terms_in k n (f (terms_of qs)))) quads)) (counts n)) (λ i ts. appearances_once ts i) (c n))
+terms_add_up k blocks quads some h =
+    sum_below-same (λ n. distinct_lines (partition_terms k quads n)) (λ n. distinct_lines (listed terms_of k quads n))
+    (λ n. ap (λ (f : List Term → List Term). distinct_lines (map (λ qs. term_lines (terms_in k n (f (terms_of qs)))) quads)) (λ i ts. appearances_once ts i)) k
+    ∙ add_up terms_of k quads some (each_terms quads (block_quads blocks quads h.statements))
     ∙ ap (λ l. length (without_repeats term_eq l)) (sym (flat_map-joined terms_of_quad quads))
     ∙ ap length (sym (appearances_once (terms_of (joined quads))))
 
 pub names_add_up : NamesAddUp
-names_add_up k blocks quads counts some h c =
-    add_up (λ qs. filter_map (λ q. q.g) qs) k quads counts some (each_names quads (block_quads blocks quads h.statements)) c
+names_add_up k blocks quads some h =
+    add_up (λ qs. filter_map (λ q. q.g) qs) k quads some (each_names quads (block_quads blocks quads h.statements))
     ∙ ap (λ l. length (without_repeats term_eq l)) (sym (filter_map-joined (λ q. q.g) quads))

@@ -2,25 +2,32 @@
 use Rattle.std.proofs.Common.{◌≡◌, ◌⊎◌, ℕ, suc, ◌<◌, List, [], ◌∷◌, ◌++◌, length, map, Option, None, Some, refl, sym, ap, subst, ◌∙◌, inl, inr, append_assoc, append-nil, arith, codes}
 use Rattle.std.specs.Prelude.{option_to_list, slice_index, ◌≢◌}
 use Rattle.std.specs.List.{AllZip}
+use Rattle.std.specs.Option.{unwrap_or}
+use Rattle.std.specs.Str.{bytes_eq}
 use Rattle.rdf_core.specs.declared.term.Term.{Term}
 use Rattle.rdf_core.specs.QuadParts.{QuadParts}
 use Rattle.rdf_core.specs.Serialization.{serialization}
 use Rattle.rdf_core.proofs.EscapeSteps.{eqb_no}
+use Rattle.rdf_core.proofs.TermLaws.{term_eq, term_decides}
 use Rattle.nquads_core.specs.Grammar.{HasStatement}
 use Rattle.nquads_core.specs.Lines.{lines, EndsLine}
 use Rattle.nquads_core.specs.Pieces.{HaveStatements}
 use Rattle.nquads_core.specs.Laws.{object_line, quad_line, with_object, IsNQuadsTerm}
 use Rattle.nquads_core.proofs.PieceLaws.{NoEnds, line_lf, lines_nil}
 use Rattle.nquads_core.proofs.LineEnds.{lines_join}
+use Rattle.nquads_core.proofs.Forms.{forms_are_distinct}
 use Rattle.nquads_core.proofs.Meaning.{one_meaning}
 use Rattle.nquads_core.proofs.Again.{lines_round_trip, terms_round_trip}
 use Rattle.dict_core.specs.Appearances.{terms_of, terms_of_quad}
 use Rattle.dict_core.specs.Numbered.{joined}
+use Rattle.quad_index.specs.Laws.{same_parts}
+use Rattle.quad_index.proofs.ReadingLaws.{parts_decides}
 use Rattle.cluster_parts.specs.Seal.{joined_texts}
-use Rattle.cluster_parts.specs.Parts.{quad_document, term_document}
+use Rattle.cluster_parts.specs.Parts.{quad_document}
 use Rattle.cluster_parts.specs.Terms.{term_lines}
 use Rattle.cluster_parts.specs.Laws.{AreWholeLines, BlocksJoin}
 use Rattle.cluster_parts.proofs.Each.{Each, Each-append}
+use Rattle.cluster_parts.proofs.SetCounts.{same_text}
 
 -- ---- one line
 
@@ -34,13 +41,6 @@ first_line : (line rest : List ℕ) (q : Option QuadParts) → HasStatement line
 first_line line rest q h = ap lines (append_assoc line (10 ∷ []) rest) ∙ line_lf line rest (no_ends line h.one_line)
 
 -- ---- documents
-
-pub terms_read : (ts : List Term) → Each IsNQuadsTerm ts → HaveStatements (lines (term_document ts)) (map with_object ts)
-terms_read [] h = subst (λ ls. HaveStatements ls []) (sym lines_nil) refl
-terms_read (t ∷ ts) h =
-    let holds : HasStatement (object_line t) (Some (with_object t)) = terms_round_trip h.0.0 h.0.1 t h.0.2 h.0.3 in
-    subst (λ ls. HaveStatements ls (map with_object (t ∷ ts))) (sym (first_line (object_line t) (term_document ts) (Some (with_object t)) holds))
-    (Some (with_object t), map with_object ts, holds, refl, terms_read ts h.1)
 
 no_ends_before : (xs ys : List ℕ) → NoEnds (xs ++ ys) → NoEnds xs
 no_ends_before [] ys h = tt
@@ -66,21 +66,26 @@ lines_of_terms (t ∷ ts) h =
 abbrev pub IsOfLine : QuadParts → Type 0
 IsOfLine q = (line : List ℕ) × HasStatement line (Some q)
 
-pub quads_read : (qs : List QuadParts) → Each IsOfLine qs → HaveStatements (lines (quad_document qs)) qs
-quads_read [] h = subst (λ ls. HaveStatements ls []) (sym lines_nil) refl
-quads_read (q ∷ qs) h =
-    let holds : HasStatement (quad_line q) (Some q) = lines_round_trip h.0.0 q h.0.1 in
-    subst (λ ls. HaveStatements ls (q ∷ qs)) (sym (first_line (quad_line q) (quad_document qs) (Some q) holds))
-    (Some q, qs, holds, refl, quads_read qs h.1)
+-- quads that are listed on lines
+pub lines_of_quads : (qs : List QuadParts) → Each IsOfLine qs → lines (quad_document qs) ≡ map quad_line qs
+lines_of_quads [] h = lines_nil
+lines_of_quads (q ∷ qs) h =
+    first_line (quad_line q) (quad_document qs) (Some q) (lines_round_trip h.0.0 q h.0.1) ∙ ap (λ l. quad_line q ∷ l) (lines_of_quads qs h.1)
+
+-- different quads have different lines
+pub line_eq : (q r : QuadParts) → IsOfLine q → IsOfLine r → bytes_eq (quad_line q) (quad_line r) ≡ same_parts q r
+line_eq q r good fine =
+    same_text same_parts parts_decides quad_line q r
+    (λ e. some_is (one_meaning (quad_line r) (Some q) (Some r) (subst (λ l. HasStatement l (Some q)) e (lines_round_trip good.0 q good.1)) (lines_round_trip fine.0 r fine.1)))
+  where
+    some_is : Some q ≡ Some r → q ≡ r
+    some_is e = ap (λ o. unwrap_or o q) e
+
+-- different terms have different forms
+pub form_eq : (t u : Term) → IsNQuadsTerm t → IsNQuadsTerm u → bytes_eq (serialization t) (serialization u) ≡ term_eq t u
+form_eq t u good fine = same_text term_eq term_decides serialization t u (forms_are_distinct t u good fine)
 
 -- ---- what lines hold
-
-pub one_reading : (ls : List (List ℕ)) (D E : List QuadParts) → HaveStatements ls D → HaveStatements ls E → D ≡ E
-one_reading [] D E d e = d ∙ sym e
-one_reading (l ∷ ls) D E d e =
-    let same : d.0 ≡ e.0 = one_meaning l d.0 e.0 d.2 e.2 in
-    let rest : d.1 ≡ e.1 = one_reading ls d.1 e.1 d.4 e.4 in
-    d.3 ∙ (λ i. option_to_list (same i) ++ rest i) ∙ sym e.3
 
 pub quads_of_lines : (ls : List (List ℕ)) (D : List QuadParts) → HaveStatements ls D → Each IsOfLine D
 quads_of_lines [] D h = subst (Each IsOfLine) (sym h) tt

@@ -1,5 +1,6 @@
 pub mod Each
 pub mod SetCounts
+pub mod RepeatedLaws
 pub mod DocumentLaws
 pub mod NumberingSteps
 pub mod AddUpLaws

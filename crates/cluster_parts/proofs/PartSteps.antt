@@ -1,9 +1,9 @@
 -- Steps of the loops that make the parts of a block.
-use Rattle.std.proofs.Common.{◌≡◌, ℕ, zero, suc, ◌+◌, ◌<◌, Bool, true, false, cond, nat_eq, ◌&&◌, ◌||◌, if◌then◌else◌, List, [], ◌∷◌, ◌++◌, length, map, filter, get_or, take, drop, slice_get, Option, Some, None, refl, sym, ap, subst, ◌∙◌, append_assoc, append-nil, length-append, arith}
+use Rattle.std.proofs.Common.{◌≡◌, ℕ, zero, suc, ◌+◌, ◌<◌, Bool, true, false, cond, nat_eq, ◌||◌, if◌then◌else◌, List, [], ◌∷◌, ◌++◌, length, map, filter, get_or, take, drop, slice_get, codes, Option, Some, None, refl, sym, ap, subst, ◌∙◌, append_assoc, append-nil, length-append, arith}
 use Rattle.std.proofs.lemmas.List.{length-map, map-append}
 use Rattle.std.specs.Prelude.{filter_map, option_to_list}
 use Rattle.std.specs.Option.{option_map, unwrap_or}
-use Rattle.std.specs.List.{flat_map, cons_option}
+use Rattle.std.specs.List.{AllByRecursion, IsDistinct, flat_map, cons_option, list_any}
 use Rattle.std.proofs.lemmas.Bool.{eqb-true}
 use Rattle.std.proofs.lemmas.List.{take_more, get_or-map, take-append-drop}
 use Rattle.std.proofs.lemmas.Nat.{le_bytes_8}
@@ -12,32 +12,34 @@ use Rattle.std.specs.Prelude.{IfSome, MatchOption, not}
 use Rattle.std.specs.Borrow.{Bor}
 use Rattle.std.proofs.lemmas.Option.{slice_get_within, unwrap_or-slice_get}
 use Rattle.std.proofs.lemmas.Grind.{flat_map-append}
-use Rattle.std.proofs.lemmas.List.Elements.{filter-append, filter_map-append}
+use Rattle.std.proofs.lemmas.List.Elements.{All-nil, filter-append, filter_map-append}
 use Rattle.std.proofs.lemmas.List.Folds.{list_any-append}
-use Rattle.std.proofs.lemmas.List.Sorted.{length_permutation}
-use Rattle.indexmap.specs.IndexSet.{insert_key, insert_all}
+use Rattle.indexmap.specs.IndexSet.{IndexSet, contains, insert_key, insert_all}
 use Rattle.rdf_core.specs.declared.term.Term.{Term}
 use Rattle.rdf_core.specs.QuadParts.{QuadParts}
+use Rattle.rdf_core.specs.Serialization.{serialization}
 use Rattle.rdf_core.proofs.TermLaws.{term_eq}
+use Rattle.nquads_core.specs.Laws.{IsNQuadsTerm, line_end}
 use Rattle.dict_core.specs.declared.num_quad.NumQuad.{NumQuad}
 use Rattle.dict_core.specs.Dict.{term_at}
 use Rattle.dict_core.specs.NumQuad.{quad_at, quads_at, AreBelow, IsBelow}
-use Rattle.dict_core.specs.Numbered.{IsNumbered}
-use Rattle.dict_core.proofs.DictLaws.{insert_known}
 use Rattle.dict_core.proofs.InsertLaws.{insert_all-append}
 use Rattle.dict_core.proofs.AppearanceLaws.{appearances}
-use Rattle.algebra_model.specs.Bag.{without_repeats}
+use Rattle.algebra_model.specs.Bag.{IsWithoutRepeats}
 use Rattle.algebra_model.specs.Dataset.{names}
-use Rattle.quad_index.specs.Counting.{IsCountOf}
-use Rattle.quad_index.specs.declared.counting.IndexCounts.{IndexCounts}
-use Rattle.quad_index.specs.Laws.{IndexCountsTheQuads, same_parts}
+use Rattle.text_dict.specs.TextDict.{IsAdded}
+use Rattle.text_pieces.specs.Forms.{AreFormsOf, AreNumberedBy}
+use Rattle.text_pieces.proofs.AddingLaws.{occur_at}
+use Rattle.text_pieces.proofs.FormLaws.{inserted_form, length_forms}
 use Rattle.cluster_parts.specs.Hash.{graph_hash, graph_key, hash, hash_numbers, number_bytes, quad_hash, subject_key, term_hash}
-use Rattle.cluster_parts.specs.Parts.{number_list, quad_document, quad_statement}
+use Rattle.cluster_parts.specs.Parts.{number_list, quad_document, quad_statement, texts_below}
+use Rattle.cluster_parts.specs.Known.{AreFound}
 use Rattle.cluster_parts.specs.Output.{hash_among}
-use Rattle.cluster_parts.specs.NumberedHash.{hash_by_numbers, name_hash_by_number}
-use Rattle.cluster_parts.specs.Repeated.{has, is_repeated}
+use Rattle.cluster_parts.specs.Numbered.{end_by_number, hash_by_numbers, line_by_numbers, name_hash_by_number, text_at}
+use Rattle.cluster_parts.specs.Repeated.{has, is_repeated, numbers_of, repeated_in, single}
 use Rattle.cluster_parts.specs.Seal.{all_sealed, joined_texts, seal_head, sealed}
 use Rattle.cluster_parts.proofs.AddUpLaws.{appearances_once}
+use Rattle.cluster_parts.proofs.RepeatedLaws.{not_repeated, pushed_has, repeated_again, singles_and_others}
 
 -- ---- one more element of a list
 
@@ -62,34 +64,69 @@ kept_more f p xs n x text text' at was wrote =
     ∙ sym (flat_map-append f (filter p (take n xs)) (filter p (x ∷ [])))
     ∙ ap (flat_map f) (sym (filter-append p (take n xs) (x ∷ [])) ∙ ap (filter p) (sym (taken xs n x at)))
 
--- the hash at a term's number is the term's
-pub hash_at : (dict : List Term) (hashes : List ℕ) (n : ℕ) (t : Term) → slice_get dict n ≡ Some t → hashes ≡ map term_hash dict → get_or hashes n 0 ≡ term_hash t
-hash_at dict hashes n t at is =
-    ap (λ l. get_or l n 0) is ∙ get_or-map term_hash dict n t 0 (slice_get_within dict n t at) ∙ ap term_hash (at_place dict n t at)
+-- the text with this number
+pub text_with_number : (texts : List (List ℕ)) (n : ℕ) (text : List ℕ) → slice_get texts n ≡ Some text → text_at texts n ≡ text
+text_with_number texts n text at = ap (λ t. t) (any_default texts n [] text (slice_get_within texts n text at)) ∙ at_place texts n text at
+  where
+    any_default : (xs : List (List ℕ)) (m : ℕ) (d e : List ℕ) → m < length xs → get_or xs m d ≡ get_or xs m e
+    any_default [] m d e low = absurd (omega (arith, low))
+    any_default (x ∷ xs) zero d e low = refl
+    any_default (x ∷ xs) (suc m) d e low = any_default xs m d e (omega (arith, low))
 
 -- ---- graph names
-
-pub known_stays : (ks : List Term) (k : Term) (n : ℕ) → slice_get ks n ≡ Some k → insert_key term_eq ks k ≡ ks
-known_stays ks k n at = insert_known ks k (n, slice_get_within ks n k at, at_place ks n k at)
 
 one_name : (g : Option Term) → cons_option g [] ≡ option_to_list g
 one_name None = refl
 one_name (Some t) = refl
 
-pub names_more : (terms : List Term) (quads : List NumQuad) (n : ℕ) (d : NumQuad) (known known' : List Term) → n < length quads → let q = get_or quads n d in
-    known ≡ insert_all term_eq [] (filter_map (λ q. q.g) (quads_at terms (take n quads)))
-    → known' ≡ insert_all term_eq known (option_to_list (quad_at terms q).g)
-    → known' ≡ insert_all term_eq [] (filter_map (λ q. q.g) (quads_at terms (take (n + 1) quads)))
-names_more terms quads n d known known' low was added =
+names_more : (terms : List Term) (quads : List NumQuad) (n : ℕ) (d : NumQuad) → n < length quads → let q = get_or quads n d in
+    insert_all term_eq (insert_all term_eq [] (filter_map (λ q. q.g) (quads_at terms (take n quads)))) (option_to_list (quad_at terms q).g)
+    ≡ insert_all term_eq [] (filter_map (λ q. q.g) (quads_at terms (take (n + 1) quads)))
+names_more terms quads n d low =
     let q = get_or quads n d in
     let before = quads_at terms (take n quads) in
-    added ∙ (λ i. insert_all term_eq (was i) (sym (one_name (quad_at terms q).g) i))
+    ap (insert_all term_eq (insert_all term_eq [] (filter_map (λ q. q.g) before))) (sym (one_name (quad_at terms q).g))
     ∙ sym (insert_all-append [] (filter_map (λ q. q.g) before) (filter_map (λ q. q.g) (quad_at terms q ∷ [])))
     ∙ ap (insert_all term_eq []) (sym (filter_map-append (λ q. q.g) before (quad_at terms q ∷ []))
     ∙ ap (filter_map (λ q. q.g)) (sym (map-append (quad_at terms) (take n quads) (q ∷ [])) ∙ ap (map (quad_at terms)) (sym (take_more quads n d low))))
 
-pub all_names : (quads : List QuadParts) → insert_all term_eq [] (filter_map (λ q. q.g) quads) ≡ names quads
+-- the names of the first quads
+abbrev pub FirstNames : List (List ℕ) → List NumQuad → List (List ℕ) → Type 0
+FirstNames texts quads known = (terms : List Term) → AreFormsOf terms texts → AreFormsOf (insert_all term_eq [] (filter_map (λ q. q.g) (quads_at terms quads))) known
+
+pub no_names : (texts known : List (List ℕ)) → known ≡ [] → FirstNames texts [] known
+no_names texts known none terms h = subst (AreFormsOf []) (sym none) (record { forms = refl; occur = All-nil IsNQuadsTerm })
+
+pub one_more_name : (texts known known' : List (List ℕ)) (quads : List NumQuad) (n : ℕ) (d : NumQuad) → n < length quads → FirstNames texts (take n quads) known
+    → ((earlier terms : List Term) → AreFormsOf earlier known → AreFormsOf terms texts → AreFormsOf (insert_all term_eq earlier (option_to_list (quad_at terms (get_or quads n d)).g)) known')
+    → FirstNames texts (take (n + 1) quads) known'
+one_more_name texts known known' quads n d low h added terms forms =
+    subst (λ l. AreFormsOf l known') (names_more terms quads n d low) (added (insert_all term_eq [] (filter_map (λ q. q.g) (quads_at terms (take n quads)))) terms (h terms forms) forms)
+
+all_names : (quads : List QuadParts) → insert_all term_eq [] (filter_map (λ q. q.g) quads) ≡ names quads
 all_names quads = let found = filter_map (λ q. q.g) quads in sym (appearances found) ∙ appearances_once found
+
+pub names_are : (all : List QuadParts) (texts known : List (List ℕ)) (quads some : List NumQuad) → some ≡ quads → FirstNames texts some known → AreNumberedBy all texts quads → AreFormsOf (names all) known
+names_are all texts known quads some whole h are =
+    subst (λ l. AreFormsOf l known)
+    (ap (λ l. insert_all term_eq [] (filter_map (λ q. q.g) (quads_at are.terms l))) whole ∙ ap (λ l. insert_all term_eq [] (filter_map (λ q. q.g) l)) are.numbered.2 ∙ all_names all)
+    (h are.terms are.forms)
+
+-- the text with the number of a term is its form
+pub text_is : (terms : List Term) (texts : List (List ℕ)) (n : ℕ) → AreFormsOf terms texts → n < length texts → text_at texts n ≡ serialization (term_at terms n)
+text_is terms texts n h low = ap (λ l. get_or l n []) h.forms ∙ get_or-map serialization terms n _ [] (omega (arith, low, length_forms terms texts h))
+
+at_number : (terms : List Term) (n : ℕ) → n < length terms → slice_get terms n ≡ Some (term_at terms n)
+at_number [] n low = absurd (omega (arith, low))
+at_number (t ∷ terms) zero low = refl
+at_number (t ∷ terms) (suc n) low = at_number terms n (omega (arith, low))
+
+pub name_added : (known known' texts : List (List ℕ)) (name : Option ℕ) (n : ℕ) → name ≡ Some n → n < length texts → IsAdded known (text_at texts n) known'
+    → (earlier terms : List Term) → AreFormsOf earlier known → AreFormsOf terms texts → AreFormsOf (insert_all term_eq earlier (option_to_list (option_map (term_at terms) name))) known'
+name_added known known' texts name n is low added earlier terms h forms =
+    let inside : n < length terms = omega (arith, low, length_forms terms texts forms) in
+    subst (λ g. AreFormsOf (insert_all term_eq earlier (option_to_list (option_map (term_at terms) g))) known') (sym is)
+    (inserted_form earlier known known' (term_at terms n) (text_at texts n) h (occur_at terms n (term_at terms n) forms.occur (at_number terms n inside)) (text_is terms texts n forms low) added)
 
 -- ---- hashes of quads
 
@@ -109,59 +146,101 @@ hashes_are dict [] below = refl
 hashes_are dict (q ∷ qs) below =
     λ i. hash_is dict q (below 0 q (omega arith)) i ∷ hashes_are dict qs (λ k d low. below (suc k) d (omega arith)) i
 
-pub quad_hashes : (quads : List QuadParts) (dict : List Term) (numbered : List NumQuad) (terms hashes : List ℕ) → IsNumbered quads dict numbered → terms ≡ map term_hash dict
+-- the hashes of texts are those of the terms
+forms_hashed : (terms : List Term) → map hash (map serialization terms) ≡ map term_hash terms
+forms_hashed [] = refl
+forms_hashed (t ∷ ts) = ap (λ l. term_hash t ∷ l) (forms_hashed ts)
+
+pub hashed_terms : (terms : List Term) (texts : List (List ℕ)) (hashes : List ℕ) → AreFormsOf terms texts → hashes ≡ map hash texts → hashes ≡ map term_hash terms
+hashed_terms terms texts hashes h made = made ∙ ap (map hash) h.forms ∙ forms_hashed terms
+
+pub quad_hashes : (quads : List QuadParts) (texts : List (List ℕ)) (numbered : List NumQuad) (terms hashes : List ℕ) → AreNumberedBy quads texts numbered → terms ≡ map hash texts
     → hashes ≡ map (hash_by_numbers terms) numbered → hashes ≡ map quad_hash quads
-quad_hashes quads dict numbered terms hashes h are made =
-    made ∙ ap (λ l. map (hash_by_numbers l) numbered) are ∙ hashes_are dict numbered h.1 ∙ ap (map quad_hash) h.2
+quad_hashes quads texts numbered terms hashes h are made =
+    made ∙ ap (λ l. map (hash_by_numbers l) numbered) (hashed_terms h.terms texts terms h.forms are)
+    ∙ hashes_are h.terms numbered h.numbered.1 ∙ ap (map quad_hash) h.numbered.2
 
--- ---- counts
+-- each number is that of a text
+pub numbers_below : (quads : List QuadParts) (texts : List (List ℕ)) (numbered : List NumQuad) (n : ℕ) → AreNumberedBy quads texts numbered → n ≡ length texts → AreBelow n numbered
+numbers_below quads texts numbered n h long = subst (λ m. AreBelow m numbered) (sym (long ∙ length_forms h.terms texts h.forms)) h.numbered.1
 
-pub counted : (quads : List QuadParts) (dict : List Term) (numbered list : List NumQuad) (counts : IndexCounts) → IndexCountsTheQuads → IsNumbered quads dict numbered
-    → list ≡ numbered → IsCountOf list counts → counts.quads ≡ length (without_repeats same_parts quads)
-counted quads dict numbered list counts law h same c =
-    let d = subst (λ l. IsCountOf l counts) same c in
-    d.quad_count ∙ sym (length-map d.index (quad_at dict))
-    ∙ length_permutation (without_repeats same_parts quads) (quads_at dict d.index) (law quads dict numbered d.index h d.each_once)
+-- ---- one more part of a block
 
--- ---- repeated hashes
+below_more : (f : ℕ → List ℕ) (n : ℕ) → texts_below f (n + 1) ≡ texts_below f n ++ f n
+below_more f n = let next : n + 1 ≡ suc n = omega arith in ap (texts_below f) next
 
-repeated_more : (xs : List ℕ) (x n : ℕ) → is_repeated (xs ++ x ∷ []) n ≡ (is_repeated xs n || (nat_eq n x && has xs n))
-repeated_more [] x n = by (nat_eq n x)
+pub one_more_part : (f : ℕ → List ℕ) (n : ℕ) (before out out' part : List ℕ) → out ≡ before ++ texts_below f n → out' ≡ out ++ part → part ≡ f n → out' ≡ before ++ texts_below f (n + 1)
+one_more_part f n before out out' part was pushed is =
+    pushed ∙ (λ i. was i ++ is i) ∙ append_assoc before (texts_below f n) (f n) ∙ ap (λ l. before ++ l) (sym (below_more f n))
+
+-- ---- numbers that were found
+
+in_keys : (keys : List ℕ) (x n : ℕ) → list_any (nat_eq n) (insert_key nat_eq keys x) ≡ (list_any (nat_eq n) keys || nat_eq n x)
+in_keys keys x n = by (list_any (nat_eq x) keys) refl
   where
-    by : (b : Bool) → (if b then false else false) ≡ (false || (b && false))
-    by true = refl
-    by false = refl
-repeated_more (m ∷ xs) x n = by (nat_eq n m) (repeated_more xs x n) (list_any-append (nat_eq n) xs (x ∷ []))
+    more : (a b : Bool) → (b ≡ true → a ≡ true) → a ≡ (a || b)
+    more true b h = refl
+    more false true h = h refl
+    more false false h = refl
+
+    or_false : (a b : Bool) → (a || (b || false)) ≡ (a || b)
+    or_false true b = refl
+    or_false false true = refl
+    or_false false false = refl
+
+    by : (b : Bool) → list_any (nat_eq x) keys ≡ b → list_any (nat_eq n) (if b then keys else keys ++ x ∷ []) ≡ (list_any (nat_eq n) keys || nat_eq n x)
+    by true e = more (list_any (nat_eq n) keys) (nat_eq n x) (λ same. ap (λ m. list_any (nat_eq m) keys) (eqb-true n x same) ∙ e)
+    by false e = list_any-append (nat_eq n) keys (x ∷ []) ∙ or_false (list_any (nat_eq n) keys) (nat_eq n x)
+
+pub none_found : {S : Type 0} (seen again : IndexSet ℕ S) → seen.keys ≡ [] → again.keys ≡ [] → AreFound [] seen again
+none_found seen again e f = record {
+  all = λ n. ap (λ l. list_any (nat_eq n) l) e;
+  repeated = λ n. ap (λ l. list_any (nat_eq n) l) f;
+}
+
+-- the number was seen before
+pub found_again : {S : Type 0} (xs : List ℕ) (x : ℕ) (seen again seen' again' : IndexSet ℕ S) → AreFound xs seen again → contains nat_eq seen x ≡ true
+    → seen'.keys ≡ insert_key nat_eq seen.keys x → again'.keys ≡ insert_key nat_eq again.keys x → AreFound (xs ++ x ∷ []) seen' again'
+found_again xs x seen again seen' again' h known e f = record {
+  all = λ n. ap (λ l. list_any (nat_eq n) l) e ∙ in_keys seen.keys x n ∙ ap (λ b. b || nat_eq n x) (h.all n) ∙ pushed_has xs x n;
+  repeated = λ n. ap (λ l. list_any (nat_eq n) l) f ∙ in_keys again.keys x n ∙ ap (λ b. b || nat_eq n x) (h.repeated n) ∙ repeated_again xs x n (sym (h.all x) ∙ known);
+}
+
+-- the number is new
+pub found_new : {S : Type 0} (xs : List ℕ) (x : ℕ) (seen again seen' : IndexSet ℕ S) → AreFound xs seen again → contains nat_eq seen x ≡ false
+    → seen'.keys ≡ insert_key nat_eq seen.keys x → AreFound (xs ++ x ∷ []) seen' again
+found_new xs x seen again seen' h new e = record {
+  all = λ n. ap (λ l. list_any (nat_eq n) l) e ∙ in_keys seen.keys x n ∙ ap (λ b. b || nat_eq n x) (h.all n) ∙ pushed_has xs x n;
+  repeated = λ n. h.repeated n ∙ not_repeated xs x n (sym (h.all x) ∙ new);
+}
+
+-- the lists of the numbers that were found
+lists_in : (p : ℕ → Bool) (lists : List (List ℕ)) → map (λ list. number_list (filter p list)) lists ≡ map number_list (map (filter p) lists)
+lists_in p [] = refl
+lists_in p (list ∷ lists) = ap (λ l. number_list (filter p list) ∷ l) (lists_in p lists)
+
+pub repeated_lists : (contained : ℕ → Bool) (count : ℕ) (lists : List (List ℕ)) (out0 out1 out2 : List ℕ) → count ≡ length (single (numbers_of lists)) → ((n : ℕ) → contained n ≡ is_repeated (numbers_of lists) n)
+    → out0 ≡ [] → out1 ≡ out0 ++ sealed (number_bytes count) → out2 ≡ out1 ++ all_sealed (map (λ list. number_list (filter contained list)) lists)
+    → out2 ≡ sealed (number_bytes (length (single (numbers_of lists)))) ++ all_sealed (map number_list (repeated_in lists))
+repeated_lists contained count lists out0 out1 out2 count_is same none first second =
+    second ∙ ap (λ l. l ++ all_sealed (map (λ list. number_list (filter contained list)) lists)) (first ∙ ap (λ l. l ++ sealed (number_bytes count)) none ∙ ap (λ n. sealed (number_bytes n)) count_is)
+    ∙ ap (λ l. sealed (number_bytes (length (single (numbers_of lists)))) ++ all_sealed l)
+    (lists_in contained lists ∙ (λ i. map number_list (map (filter (λ n. same n i)) lists)))
+
+-- distinct keys
+pub distinct_keys : (keys : List ℕ) → IsDistinct nat_eq keys → IsWithoutRepeats nat_eq keys
+unfolding IsDistinct
+distinct_keys [] h = tt
+distinct_keys (k ∷ keys) h = (none keys h.0, distinct_keys keys h.1)
   where
-    last : (a b : Bool) → (a || (b || false)) ≡ (a || (b && true))
-    last true b = refl
-    last false true = refl
-    last false false = refl
+    none : (ks : List ℕ) → AllByRecursion (λ y. nat_eq k y ≡ false) ks → list_any (nat_eq k) ks ≡ false
+    none [] a = refl
+    none (y ∷ ks) a = (λ i. a.0 i || none ks a.1 i)
 
-    by : (b : Bool) → is_repeated (xs ++ x ∷ []) n ≡ (is_repeated xs n || (nat_eq n x && has xs n)) → has (xs ++ x ∷ []) n ≡ (has xs n || (nat_eq n x || false))
-        → (if b then has (xs ++ x ∷ []) n else is_repeated (xs ++ x ∷ []) n) ≡ ((if b then has xs n else is_repeated xs n) || (nat_eq n x && (b || has xs n)))
-    by true e f = f ∙ last (has xs n) (nat_eq n x)
-    by false e f = e
-
-pub pushed_again : (xs found : List ℕ) (x n : ℕ) → has xs x ≡ true → has found n ≡ is_repeated xs n → has (found ++ x ∷ []) n ≡ is_repeated (xs ++ x ∷ []) n
-pushed_again xs found x n seen was =
-    list_any-append (nat_eq n) found (x ∷ []) ∙ ap (λ b. b || (nat_eq n x || false)) was
-    ∙ ap (λ b. is_repeated xs n || b) (by (nat_eq n x) refl) ∙ sym (repeated_more xs x n)
-  where
-    by : (b : Bool) → nat_eq n x ≡ b → (b || false) ≡ (b && has xs n)
-    by true e = sym (ap (has xs) (eqb-true n x e) ∙ seen)
-    by false e = refl
-
-pub not_again : (xs found : List ℕ) (x n : ℕ) → has xs x ≡ false → has found n ≡ is_repeated xs n → has found n ≡ is_repeated (xs ++ x ∷ []) n
-not_again xs found x n new was = was ∙ by (is_repeated xs n) (nat_eq n x) refl ∙ sym (repeated_more xs x n)
-  where
-    none : (a : Bool) → a ≡ (a || false)
-    none true = refl
-    none false = refl
-
-    by : (a b : Bool) → nat_eq n x ≡ b → a ≡ (a || (b && has xs n))
-    by a true e = none a ∙ ap (λ b. a || b) (sym (ap (has xs) (eqb-true n x e) ∙ new))
-    by a false e = none a
+-- the numbers that were seen, less those that were seen again
+pub single_count : {S : Type 0} (xs : List ℕ) (seen again : IndexSet ℕ S) → AreFound xs seen again → IsDistinct nat_eq seen.keys → IsDistinct nat_eq again.keys
+    → length (single xs) + length again.keys ≡ length seen.keys
+single_count xs seen again h once once' = singles_and_others xs seen.keys again.keys (distinct_keys seen.keys once) (distinct_keys again.keys once') h.all h.repeated
 
 -- ---- sealed texts
 
@@ -187,14 +266,39 @@ pub number_shorter : (n : ℕ) (rest after : List ℕ) → rest ≡ number_bytes
 unfolding number_bytes
 number_shorter n rest after e = subst (λ l. length after < length l) (sym e) (longer (get_or (number_bytes n) 0 0) (drop 1 (number_bytes n)) after)
 
-pub one_more_number : (bytes rest after numbers numbers' : List ℕ) (n : ℕ) → bytes ≡ number_list numbers ++ rest → rest ≡ number_bytes n ++ after → numbers' ≡ numbers ++ n ∷ []
-    → bytes ≡ number_list numbers' ++ after
-one_more_number bytes rest after numbers numbers' n all first pushed =
-    all ∙ ap (λ l. number_list numbers ++ l) first ∙ sym (append_assoc (number_list numbers) (number_bytes n) after)
-    ∙ ap (λ l. l ++ after) (ap (λ l. number_list numbers ++ l) (sym (append-nil (number_bytes n))) ∙ sym (flat_map-append number_bytes numbers (n ∷ [])) ∙ ap number_list (sym pushed))
+-- the numbers that were read, after those that were there before
+pub record AreRead (bytes rest before numbers : List ℕ) : Type 0 where
+  pub more : List ℕ
+  pub read : bytes ≡ number_list more ++ rest
+  pub pushed : numbers ≡ before ++ more
 
-pub all_numbers : (bytes rest numbers : List ℕ) → bytes ≡ number_list numbers ++ rest → rest ≡ [] → bytes ≡ number_list numbers
-all_numbers bytes rest numbers all none = all ∙ ap (λ l. number_list numbers ++ l) none ∙ append-nil (number_list numbers)
+pub no_number : (bytes before : List ℕ) → AreRead bytes bytes before before
+no_number bytes before = record { more = []; read = refl; pushed = sym (append-nil before) }
+
+pub one_more_number : (bytes rest after before numbers numbers' : List ℕ) (n : ℕ) → AreRead bytes rest before numbers → rest ≡ number_bytes n ++ after → numbers' ≡ numbers ++ n ∷ []
+    → AreRead bytes after before numbers'
+one_more_number bytes rest after before numbers numbers' n h first pushed = record {
+  more = h.more ++ n ∷ [];
+  read = h.read ∙ ap (λ l. number_list h.more ++ l) first ∙ sym (append_assoc (number_list h.more) (number_bytes n) after)
+      ∙ ap (λ l. l ++ after) (ap (λ l. number_list h.more ++ l) (sym (append-nil (number_bytes n))) ∙ sym (flat_map-append number_bytes h.more (n ∷ [])));
+  pushed = pushed ∙ ap (λ l. l ++ n ∷ []) h.pushed ∙ append_assoc before h.more (n ∷ []);
+}
+
+pub all_numbers : (bytes rest before numbers : List ℕ) → AreRead bytes rest before numbers → rest ≡ [] → (more : List ℕ) × (bytes ≡ number_list more) × (numbers ≡ before ++ more)
+all_numbers bytes rest before numbers h none = (h.more, h.read ∙ ap (λ l. number_list h.more ++ l) none ∙ append-nil (number_list h.more), h.pushed)
+
+-- ---- sealed lists of numbers
+
+-- one more sealed list
+pub one_more_list : (lists : List (List ℕ)) (bytes rest text after list : List ℕ) → bytes ≡ all_sealed (map number_list lists) ++ rest → rest ≡ sealed text ++ after → text ≡ number_list list
+    → bytes ≡ all_sealed (map number_list (lists ++ list ∷ [])) ++ after
+one_more_list lists bytes rest text after list all first is =
+    (one_more_text (map number_list lists) bytes rest text after (joined_texts (map number_list lists)) (joined_texts (map number_list lists) ++ text) all first refl refl).0
+    ∙ ap (λ l. all_sealed l ++ after) (ap (λ t. map number_list lists ++ t ∷ []) is ∙ sym (map-append number_list lists (list ∷ [])))
+
+pub more_numbers : (lists : List (List ℕ)) (numbers numbers' list : List ℕ) → numbers ≡ numbers_of lists → numbers' ≡ numbers ++ list → numbers' ≡ numbers_of (lists ++ list ∷ [])
+more_numbers lists numbers numbers' list was pushed =
+    pushed ∙ ap (λ l. l ++ list) was ∙ ap (λ l. numbers_of lists ++ l) (sym (append-nil list)) ∙ sym (flat_map-append (λ l. l) lists (list ∷ []))
 
 -- ---- quads by key
 
@@ -218,6 +322,27 @@ keyed_more p key dict quads keys i d text text' low are was wrote =
     ∙ sym (flat_map-append quad_statement (filter chosen (take i xs)) (filter chosen (x ∷ [])))
     ∙ ap (flat_map quad_statement) (sym (filter-append chosen (take i xs) (x ∷ [])) ∙ ap (filter chosen) (sym (taken_at xs i x inside here)))
 
+-- the line of a quad of numbers
+pub line_is : (terms : List Term) (texts : List (List ℕ)) (q : NumQuad) → AreFormsOf terms texts → IsBelow (length texts) q → line_by_numbers texts q ≡ quad_statement (quad_at terms q)
+line_is terms texts q h below =
+    λ i. (text_is terms texts q.s h below.0 i ++ (codes " " ++ (text_is terms texts q.p h below.1 i ++ (codes " " ++ (text_is terms texts q.o h below.2 i ++ (codes " " ++ by q.g below.3 i)))))) ++ codes "\n"
+  where
+    by : (g : Option ℕ) → ((n : ℕ) → g ≡ Some n → n < length texts) → end_by_number texts g ≡ line_end (option_map (term_at terms) g)
+    by None below = refl
+    by (Some n) below = ap (λ t. t ++ codes " .") (text_is terms texts n h (below n refl))
+
+-- one more line of a block
+pub one_more_line : (p : Option ℕ → Bool) (all : List QuadParts) (key : QuadParts → Option ℕ) (texts : List (List ℕ)) (quads : List NumQuad) (keys : List (Option ℕ)) (i : ℕ) (d : NumQuad) (text text' : List ℕ)
+    → i < length quads → AreNumberedBy all texts quads → keys ≡ map key all → IsBelow (length texts) (get_or quads i d)
+    → text ≡ quad_document (filter (λ q. p (key q)) (take i all))
+    → text' ≡ text ++ (if p (get_or keys i None) then line_by_numbers texts (get_or quads i d) else [])
+    → text' ≡ quad_document (filter (λ q. p (key q)) (take (i + 1) all))
+one_more_line p all key texts quads keys i d text text' low h are below was wrote =
+    let is = sym h.numbered.2 in
+    keyed_more p key h.terms quads keys i d text text' low (are ∙ ap (map key) is) (was ∙ ap (λ l. quad_document (filter (λ q. p (key q)) (take i l))) is)
+    (wrote ∙ ap (λ t. text ++ (if p (get_or keys i None) then t else [])) (line_is h.terms texts (get_or quads i d) h.forms below))
+    ∙ ap (λ l. quad_document (filter (λ q. p (key q)) (take (i + 1) l))) (sym is)
+
 -- ---- the keys of quads
 
 subject_key_is : (dict : List Term) (q : NumQuad) → IsBelow (length dict) q → Some (get_or (map term_hash dict) q.s 0) ≡ subject_key (quad_at dict q)
@@ -233,17 +358,25 @@ keys_at : (f : NumQuad → Option ℕ) (key : QuadParts → Option ℕ) (dict : 
 keys_at f key dict is [] below = refl
 keys_at f key dict is (q ∷ qs) below = λ i. is q (below 0 q (omega arith)) i ∷ keys_at f key dict is qs (λ k d low. below (suc k) d (omega arith)) i
 
-pub subject_keys_are : (quads : List QuadParts) (dict : List Term) (numbered : List NumQuad) (hashes : List ℕ) (keys : List (Option ℕ)) → IsNumbered quads dict numbered → hashes ≡ map term_hash dict
+pub subject_keys_are : (quads : List QuadParts) (texts : List (List ℕ)) (numbered : List NumQuad) (hashes : List ℕ) (keys : List (Option ℕ)) → AreNumberedBy quads texts numbered → hashes ≡ map hash texts
     → keys ≡ map (λ q. Some (get_or hashes q.s 0)) numbered → keys ≡ map subject_key quads
-subject_keys_are quads dict numbered hashes keys h are made =
-    made ∙ ap (λ l. map (λ q. Some (get_or l q.s 0)) numbered) are
-    ∙ keys_at (λ q. Some (get_or (map term_hash dict) q.s 0)) subject_key dict (subject_key_is dict) numbered h.1 ∙ ap (map subject_key) h.2
+subject_keys_are quads texts numbered hashes keys h are made =
+    let dict = h.terms in
+    made ∙ ap (λ l. map (λ q. Some (get_or l q.s 0)) numbered) (hashed_terms dict texts hashes h.forms are)
+    ∙ keys_at (λ q. Some (get_or (map term_hash dict) q.s 0)) subject_key dict (subject_key_is dict) numbered h.numbered.1 ∙ ap (map subject_key) h.numbered.2
 
-pub graph_keys_are : (quads : List QuadParts) (dict : List Term) (numbered : List NumQuad) (hashes : List ℕ) (keys : List (Option ℕ)) → IsNumbered quads dict numbered → hashes ≡ map term_hash dict
+pub graph_keys_are : (quads : List QuadParts) (texts : List (List ℕ)) (numbered : List NumQuad) (hashes : List ℕ) (keys : List (Option ℕ)) → AreNumberedBy quads texts numbered → hashes ≡ map hash texts
     → keys ≡ map (λ q. option_map (λ n. get_or hashes n 0) q.g) numbered → keys ≡ map graph_key quads
-graph_keys_are quads dict numbered hashes keys h are made =
-    made ∙ ap (λ l. map (λ q. option_map (λ n. get_or l n 0) q.g) numbered) are
-    ∙ keys_at (λ q. option_map (λ n. get_or (map term_hash dict) n 0) q.g) graph_key dict (λ q below. graph_key_is dict q.g below.3) numbered h.1 ∙ ap (map graph_key) h.2
+graph_keys_are quads texts numbered hashes keys h are made =
+    let dict = h.terms in
+    made ∙ ap (λ l. map (λ q. option_map (λ n. get_or l n 0) q.g) numbered) (hashed_terms dict texts hashes h.forms are)
+    ∙ keys_at (λ q. option_map (λ n. get_or (map term_hash dict) n 0) q.g) graph_key dict (λ q below. graph_key_is dict q.g below.3) numbered h.numbered.1 ∙ ap (map graph_key) h.numbered.2
+
+-- the keys are as many as the quads of numbers
+pub same_length : (quads : List QuadParts) (texts : List (List ℕ)) (numbered : List NumQuad) (key : QuadParts → Option ℕ) (keys : List (Option ℕ)) → AreNumberedBy quads texts numbered
+    → keys ≡ map key quads → length keys ≡ length numbered
+same_length quads texts numbered key keys h are =
+    ap length are ∙ length-map quads key ∙ sym (ap length h.numbered.2) ∙ length-map numbered (quad_at h.terms)
 
 -- ---- the hashes that are looked for
 

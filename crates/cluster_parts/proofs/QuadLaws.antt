@@ -1,35 +1,39 @@
 -- The distinct quads of the partitions are those of the document.
-use Rattle.std.proofs.Common.{◌≡◌, ℕ, zero, suc, ◌+◌, ◌<◌, ◌≤◌, ◌%◌, Bool, true, false, cond, eqb, nat_eq, not, ◌&&◌, ◌||◌, if◌then◌else◌, List, [], ◌∷◌, ◌++◌, length, map, filter, Some, None, refl, sym, ap, subst, ◌∙◌, ⊎_elim, arith, eq-eqb, ne_eqb}
-use Rattle.std.proofs.lemmas.List.{length-map, map-append}
+use Rattle.std.proofs.Common.{◌≡◌, ℕ, zero, suc, ◌+◌, ◌<◌, ◌≤◌, ◌%◌, ◌==◌, Bool, true, false, cond, eqb, nat_eq, not, ◌&&◌, ◌||◌, if◌then◌else◌, List, [], ◌∷◌, ◌++◌, length, map, filter, get_or, Some, None, refl, sym, ap, ◌∙◌, ⊎_elim, arith, eq-eqb, ne_eqb, append-nil, append_assoc}
+use Rattle.std.proofs.lemmas.List.{get_or-map, length-map, map-append}
 use Rattle.std.specs.List.{flat_map, list_any}
+use Rattle.std.specs.Str.{bytes_eq}
 use Rattle.std.proofs.lemmas.Bool.{cases_Bool, false≢true, eqb-true}
 use Rattle.std.proofs.lemmas.Bool.Decides.{Decides-eqb}
+use Rattle.std.proofs.lemmas.Grind.{flat_map-append}
 use Rattle.std.proofs.lemmas.Nat.{mod_below}
 use Rattle.std.proofs.lemmas.List.Elements.{filter-append}
-use Rattle.std.proofs.lemmas.List.Filters.{length-filter_both}
 use Rattle.std.proofs.lemmas.List.Folds.{list_any-append}
 use Rattle.rdf_core.specs.QuadParts.{QuadParts}
+use Rattle.nquads_core.specs.Laws.{quad_line}
 use Rattle.nquads_core.specs.Lines.{lines}
-use Rattle.nquads_core.specs.Pieces.{HaveStatements}
 use Rattle.dict_core.specs.Numbered.{joined}
-use Rattle.algebra_model.specs.Bag.{IsWithoutRepeats, without_repeats}
-use Rattle.algebra_model.proofs.RepeatLaws.{IsWithoutRepeats-filter, IsWithoutRepeats-without_repeats, any-without_repeats_is}
+use Rattle.algebra_model.specs.Bag.{without_repeats}
 use Rattle.quad_index.specs.Laws.{same_parts}
 use Rattle.quad_index.proofs.ReadingLaws.{parts_decides}
 use Rattle.cluster_parts.specs.Hash.{quad_hash}
-use Rattle.cluster_parts.specs.Parts.{has_key, hashes_in, is_in, quad_document, quad_statement, quads_in, texts_below}
-use Rattle.cluster_parts.specs.Repeated.{has, is_repeated, single}
-use Rattle.cluster_parts.specs.Output.{AreRepeated, IsCountOf, hash_among}
-use Rattle.cluster_parts.specs.Laws.{QuadsAddUp, hashes_gathered, quads_gathered}
-use Rattle.cluster_parts.specs.Sums.{sum_below}
+use Rattle.cluster_parts.specs.Parts.{has_key, hashes_in, is_in, quad_document, quads_in, texts_below}
+use Rattle.cluster_parts.specs.Repeated.{has, is_repeated, numbers_of, repeated_in, single}
+use Rattle.cluster_parts.specs.Output.{distinct_lines, hash_among}
+use Rattle.cluster_parts.specs.Laws.{QuadsAddUp, block_again, each_below, hashes_again, partition_again, partition_hashes}
+use Rattle.quad_index.specs.Parts.{sum_below}
 use Rattle.cluster_parts.proofs.Each.{Each, Each-filter, Each-flat_map}
-use Rattle.cluster_parts.proofs.DocumentLaws.{IsOfLine, block_quads, one_reading, quads_read}
-use Rattle.cluster_parts.proofs.SetCounts.{any-filter_is, length_of_set, parts_add_up, sum_below-plus, sum_below-same, sum_of_parts}
-use Rattle.cluster_parts.proofs.AddUpLaws.{joined-map, map-filter}
+use Rattle.cluster_parts.proofs.DocumentLaws.{IsOfLine, block_quads, line_eq, lines_of_quads}
+use Rattle.cluster_parts.proofs.SetCounts.{any-filter_is, parts_add_up, sum_below-plus, sum_below-same, sum_of_parts, without_repeats-map}
+use Rattle.cluster_parts.proofs.RepeatedLaws.{both_kinds, repeated_and_has}
 
 none_and : (a : Bool) → false ≡ (a && false)
 none_and true = refl
 none_and false = refl
+
+below_numbers : (f : ℕ → List ℕ) (n : ℕ) → numbers_of (each_below f n) ≡ texts_below f n
+below_numbers f zero = refl
+below_numbers f (suc n) = flat_map-append (λ l. l) (each_below f n) (f n ∷ []) ∙ (λ i. below_numbers f n i ++ append-nil (f n) i)
 
 -- ---- hashes that are in one partition
 
@@ -69,37 +73,35 @@ singles_add_up k some hs =
     sum_below-same (λ n. length (single (hashes_in k n hs))) (λ n. length (filter (is_in k n) (single hs))) (λ n. ap length (single_filter (is_in k n) hs)) k
     ∙ sum_of_parts (λ h. h % k) k (λ h. mod_below h k some) (single hs)
 
-gathered_hashes : (k n : ℕ) (quads : List (List QuadParts)) → hashes_gathered k quads n ≡ hashes_in k n (map quad_hash (joined quads))
+gathered_hashes : (k n : ℕ) (quads : List (List QuadParts)) → numbers_of (partition_hashes k quads n) ≡ hashes_in k n (map quad_hash (joined quads))
 gathered_hashes k n [] = refl
 gathered_hashes k n (qs ∷ quads) =
     ap (λ l. hashes_in k n (map quad_hash qs) ++ l) (gathered_hashes k n quads)
     ∙ sym (filter-append (is_in k n) (map quad_hash qs) (map quad_hash (joined quads)))
     ∙ ap (filter (is_in k n)) (sym (map-append quad_hash qs (joined quads)))
 
--- ---- the repeated hashes of all partitions
+-- ---- the hashes of all partitions
 
-module _ (k : ℕ) (some : 0 < k) (hs : List ℕ) (repeated : ℕ → List ℕ) (are : (n : ℕ) → AreRepeated (hashes_in k n hs) (repeated n)) where
-  of_part : (n h : ℕ) → has (repeated n) h ≡ (eqb (h % k) n && is_repeated hs h)
-  of_part n h = are n h ∙ repeated_filter (is_in k n) hs h
-
-  no_part : (h j : ℕ) → j ≤ h % k → has (texts_below repeated j) h ≡ false
+-- each partition has those of its hashes that are wanted
+module _ (k : ℕ) (some : 0 < k) (wanted : ℕ → Bool) (lists : ℕ → List ℕ) (are : (n h : ℕ) → has (lists n) h ≡ (eqb (h % k) n && wanted h)) where
+  no_part : (h j : ℕ) → j ≤ h % k → has (texts_below lists j) h ≡ false
   no_part h zero low = refl
   no_part h (suc j) low =
       let apart : eqb (h % k) j ≡ false = ne_eqb (h % k) j (λ e. absurd (omega (arith, e))) in
-      list_any-append (nat_eq h) (texts_below repeated j) (repeated j)
-      ∙ (λ i. no_part h j (omega arith) i || (of_part j h ∙ ap (λ b. b && is_repeated hs h) apart) i)
+      list_any-append (nat_eq h) (texts_below lists j) (lists j)
+      ∙ (λ i. no_part h j (omega arith) i || (are j h ∙ ap (λ b. b && wanted h) apart) i)
 
-  some_part : (h j : ℕ) → h % k < j → has (texts_below repeated j) h ≡ is_repeated hs h
+  some_part : (h j : ℕ) → h % k < j → has (texts_below lists j) h ≡ wanted h
   some_part h zero low = absurd (omega arith)
   some_part h (suc j) low =
-      list_any-append (nat_eq h) (texts_below repeated j) (repeated j)
+      list_any-append (nat_eq h) (texts_below lists j) (lists j)
       ∙ ⊎_elim
       (λ (e : eqb (h % k) j ≡ true).
       let none = no_part h j (omega (arith, eqb-true (h % k) j e)) in
-      (λ i. none i || (of_part j h ∙ ap (λ b. b && is_repeated hs h) e) i))
+      (λ i. none i || (are j h ∙ ap (λ b. b && wanted h) e) i))
       (λ (e : eqb (h % k) j ≡ false).
       let one = some_part h j (omega (arith, other e)) in
-      (λ i. one i || (of_part j h ∙ ap (λ b. b && is_repeated hs h) e) i) ∙ last (is_repeated hs h))
+      (λ i. one i || (are j h ∙ ap (λ b. b && wanted h) e) i) ∙ last (wanted h))
       (cases_Bool (eqb (h % k) j))
     where
       last : (b : Bool) → (b || false) ≡ b
@@ -109,81 +111,50 @@ module _ (k : ℕ) (some : 0 < k) (hs : List ℕ) (repeated : ℕ → List ℕ) 
       other : eqb (h % k) j ≡ false → h % k ≡ j → ⊥
       other e same = false≢true (sym e ∙ eq-eqb (h % k) j same)
 
-  all_repeated : (h : ℕ) → has (texts_below repeated k) h ≡ is_repeated hs h
-  all_repeated h = some_part h k (mod_below h k some)
+  all_parts : (h : ℕ) → has (numbers_of (each_below lists k)) h ≡ wanted h
+  all_parts h = ap (λ l. has l h) (below_numbers lists k) ∙ some_part h k (mod_below h k some)
 
--- ---- quads whose hash occurs once
+-- ---- the hashes of a block that occur again
 
-repeated_has : (xs : List ℕ) (h : ℕ) → is_repeated xs h ≡ true → has xs h ≡ true
-repeated_has [] h e = e
-repeated_has (m ∷ xs) h e = by (nat_eq h m) refl e (repeated_has xs h)
-  where
-    by : (b : Bool) → nat_eq h m ≡ b → (if b then has xs h else is_repeated xs h) ≡ true → (is_repeated xs h ≡ true → has xs h ≡ true) → (b || has xs h) ≡ true
-    by true f e ih = refl
-    by false f e ih = ih e
+both_in : (a b c : Bool) → ((a && b) && (a && c)) ≡ (a && (b && c))
+both_in true b c = refl
+both_in false b c = refl
 
-any_hash : (q : QuadParts) (qs : List QuadParts) → list_any (same_parts q) qs ≡ true → has (map quad_hash qs) (quad_hash q) ≡ true
-any_hash q [] e = e
-any_hash q (r ∷ qs) e = by (same_parts q r) refl e (any_hash q qs)
-  where
-    right : (a b : Bool) → b ≡ true → (a || b) ≡ true
-    right true b e = refl
-    right false b e = e
+module _ (k : ℕ) (some : 0 < k) (quads : List (List QuadParts)) where
+  abbrev all_hashes : List ℕ
+  all_hashes = map quad_hash (joined quads)
 
-    by : (b : Bool) → same_parts q r ≡ b → (b || list_any (same_parts q) qs) ≡ true → (list_any (same_parts q) qs ≡ true → has (map quad_hash qs) (quad_hash q) ≡ true)
-        → (nat_eq (quad_hash q) (quad_hash r) || has (map quad_hash qs) (quad_hash q)) ≡ true
-    by true f e ih = ap (λ b. b || has (map quad_hash qs) (quad_hash q)) (eq-eqb (quad_hash q) (quad_hash r) (ap quad_hash ((parts_decides q r).0 f)))
-    by false f e ih = right (nat_eq (quad_hash q) (quad_hash r)) (has (map quad_hash qs) (quad_hash q)) (ih e)
+  -- the hashes of a block
+  abbrev of_block : ℕ → List ℕ
+  of_block block = map quad_hash (get_or quads block [])
 
-single_quads : (hs : List ℕ) (qs : List QuadParts) → ((h : ℕ) → is_repeated (map quad_hash qs) h ≡ true → is_repeated hs h ≡ true)
-    → IsWithoutRepeats same_parts (filter (λ q. not (is_repeated hs (quad_hash q))) qs)
-single_quads hs [] more = tt
-single_quads hs (x ∷ qs) more = by (is_repeated hs (quad_hash x)) refl (single_quads hs qs later)
-  where
-    once : QuadParts → Bool
-    once q = not (is_repeated hs (quad_hash q))
+  -- what `repeated` writes for a block in a partition
+  list_is : (block : ℕ) → block < length quads → (n : ℕ)
+      → get_or (repeated_in (partition_hashes k quads n)) block [] ≡ filter (is_repeated (hashes_in k n all_hashes)) (hashes_in k n (of_block block))
+  list_is block low n =
+      let lists = partition_hashes k quads n in
+      get_or-map (filter (is_repeated (numbers_of lists))) lists block [] [] (omega (arith, low, length-map quads (λ qs. hashes_in k n (map quad_hash qs))))
+      ∙ (λ i. filter (is_repeated (gathered_hashes k n quads i)) (get_or-map (λ qs. hashes_in k n (map quad_hash qs)) quads block [] [] low i))
 
-    step : (h : ℕ) → is_repeated (map quad_hash qs) h ≡ true → (b : Bool) → (if b then has (map quad_hash qs) h else is_repeated (map quad_hash qs) h) ≡ true
-    step h e true = repeated_has (map quad_hash qs) h e
-    step h e false = e
+  list_has : (block : ℕ) → block < length quads → (n h : ℕ)
+      → has (get_or (repeated_in (partition_hashes k quads n)) block []) h ≡ (eqb (h % k) n && (is_repeated all_hashes h && has (of_block block) h))
+  list_has block low n h =
+      ap (λ l. has l h) (list_is block low n)
+      ∙ any-filter_is nat_eq Decides-eqb (is_repeated (hashes_in k n all_hashes)) h (hashes_in k n (of_block block))
+      ∙ (λ i. repeated_filter (is_in k n) all_hashes h i && any-filter_is nat_eq Decides-eqb (is_in k n) h (of_block block) i)
+      ∙ both_in (is_in k n h) (is_repeated all_hashes h) (has (of_block block) h)
 
-    later : (h : ℕ) → is_repeated (map quad_hash qs) h ≡ true → is_repeated hs h ≡ true
-    later h e = more h (step h e (nat_eq h (quad_hash x)))
+  block_has : (block : ℕ) → block < length quads → (h : ℕ)
+      → has (numbers_of (hashes_again k quads block)) h ≡ (is_repeated all_hashes h && has (of_block block) h)
+  block_has block low h =
+      all_parts k some (λ h. is_repeated all_hashes h && has (of_block block) h) (λ n. get_or (repeated_in (partition_hashes k quads n)) block []) (list_has block low) h
 
-    none : is_repeated hs (quad_hash x) ≡ false → list_any (same_parts x) (filter once qs) ≡ false
-    none e = ⊎_elim
-        (λ (t : list_any (same_parts x) qs ≡ true).
-        absurd (false≢true (sym e ∙ more (quad_hash x) (ap (λ b. if b then has (map quad_hash qs) (quad_hash x) else is_repeated (map quad_hash qs) (quad_hash x)) (eq-eqb (quad_hash x) (quad_hash x) refl) ∙ any_hash x qs t))))
-        (λ (t : list_any (same_parts x) qs ≡ false).
-        any-filter_is same_parts parts_decides once x qs ∙ ap (λ b. once x && b) t ∙ sym (none_and (once x)))
-        (cases_Bool (list_any (same_parts x) qs))
+  -- the hashes that occur again, of all blocks
+  abbrev repeated_all : List ℕ
+  repeated_all = filter (is_repeated all_hashes) all_hashes
 
-    by : (b : Bool) → is_repeated hs (quad_hash x) ≡ b → IsWithoutRepeats same_parts (filter once qs) → IsWithoutRepeats same_parts (cond (not b) (x ∷ filter once qs) (filter once qs))
-    by true e ih = ih
-    by false e ih = (none e, ih)
-
--- the quads whose hash occurs once are as many as those hashes; the others are distinct or not
-both_kinds : (Q : List QuadParts) → length (single (map quad_hash Q)) + length (without_repeats same_parts (filter (λ q. is_repeated (map quad_hash Q) (quad_hash q)) Q)) ≡ length (without_repeats same_parts Q)
-both_kinds Q =
-    let hs = map quad_hash Q in
-    let p : QuadParts → Bool = λ q. is_repeated hs (quad_hash q) in
-    let once : QuadParts → Bool = λ q. not (is_repeated hs (quad_hash q)) in
-    let all = without_repeats same_parts Q in
-    let sides : length (filter p all) + length (filter once all) ≡ length all = length-filter_both p once (λ q. refl) all in
-    let repeats : length (without_repeats same_parts (filter p Q)) ≡ length (filter p all) = part p in
-    let others : length (without_repeats same_parts (filter once Q)) ≡ length (filter once all) = part once in
-    let alone : length (without_repeats same_parts (filter once Q)) ≡ length (filter once Q) =
-    length_of_set same_parts parts_decides (filter once Q) (filter once Q) (single_quads hs Q (λ h e. e)) (λ q. refl) in
-    let hashed : length (single hs) ≡ length (filter once Q) =
-    ap length (map-filter quad_hash (λ h. not (is_repeated hs h)) Q) ∙ length-map (filter once Q) quad_hash in
-    omega (arith, sides, repeats, others, alone, hashed)
-  where
-    part : (r : QuadParts → Bool) → length (without_repeats same_parts (filter r Q)) ≡ length (filter r (without_repeats same_parts Q))
-    part r =
-        let all = without_repeats same_parts Q in
-        length_of_set same_parts parts_decides (filter r Q) (filter r all)
-        (IsWithoutRepeats-filter same_parts r all (IsWithoutRepeats-without_repeats same_parts Q))
-        (λ q. any-filter_is same_parts parts_decides r q Q ∙ ap (λ b. r q && b) (sym (any-without_repeats_is same_parts parts_decides q Q)) ∙ sym (any-filter_is same_parts parts_decides r q all))
+  all_has : (h : ℕ) → has repeated_all h ≡ is_repeated all_hashes h
+  all_has h = any-filter_is nat_eq Decides-eqb (is_repeated all_hashes) h all_hashes ∙ repeated_and_has all_hashes h
 
 -- ---- quads that are read again
 
@@ -196,14 +167,6 @@ module _ (hashes : List ℕ) (k : ℕ) where
   again_is (qs ∷ quads) n =
       ap (λ l. quads_in (hash_among hashes) k n qs ++ l) (again_is quads n)
       ∙ sym (filter-append (λ q. has_key k n (hash_among hashes q)) qs (joined quads))
-
-  counted_again : (quads : List (List QuadParts)) (n count : ℕ) → Each (Each IsOfLine) quads → IsCountOf (quads_gathered hashes k quads n) count
-      → count ≡ length (without_repeats same_parts (again quads n))
-  counted_again quads n count good c =
-      let all : Each IsOfLine (again quads n) = Each-flat_map (Each IsOfLine) IsOfLine (quads_in (hash_among hashes) k n) (λ qs h. Each-filter IsOfLine (λ q. has_key k n (hash_among hashes q)) qs h) quads good in
-      let whole : quads_gathered hashes k quads n ≡ quad_document (again quads n) = joined-map (quads_in (hash_among hashes) k n) quad_statement quads in
-      c.counted ∙ ap (λ l. length (without_repeats same_parts l))
-      (one_reading (lines (quad_document (again quads n))) c.quads (again quads n) (subst (λ d. HaveStatements (lines d) c.quads) whole c.statements) (quads_read (again quads n) all))
 
   again_adds_up : 0 < k → (quads : List (List QuadParts))
       → sum_below (λ n. length (without_repeats same_parts (again quads n))) k ≡ length (without_repeats same_parts (filter (λ q. has hashes (quad_hash q)) (joined quads)))
@@ -218,20 +181,119 @@ module _ (hashes : List ℕ) (k : ℕ) where
       by n q true a = refl
       by n q false a = none_and (eqb (quad_hash q % k) n)
 
+-- ---- the lines that are read again
+
+-- a quad of the block has its hash there
+own_hash : (qs : List QuadParts) → Each (λ q. has (map quad_hash qs) (quad_hash q) ≡ true) qs
+own_hash [] = tt
+own_hash (q ∷ qs) = (ap (λ b. b || has (map quad_hash qs) (quad_hash q)) (eq-eqb (quad_hash q) (quad_hash q) refl), later qs (own_hash qs))
+  where
+    right : (a b : Bool) → b ≡ true → (a || b) ≡ true
+    right true b e = refl
+    right false b e = e
+
+    later : (rs : List QuadParts) → Each (λ r. has (map quad_hash qs) (quad_hash r) ≡ true) rs → Each (λ r. has (map quad_hash (q ∷ qs)) (quad_hash r) ≡ true) rs
+    later [] h = tt
+    later (r ∷ rs) h = (right (nat_eq (quad_hash r) (quad_hash q)) (has (map quad_hash qs) (quad_hash r)) h.0, later rs h.1)
+
+-- the quads of a block that have one of the hashes, if the lists have the same hashes of the block
+same_quads : (few all hs : List ℕ) (k n : ℕ) → ((h : ℕ) → has few h ≡ (has all h && has hs h)) → (rs : List QuadParts) → Each (λ r. has hs (quad_hash r) ≡ true) rs
+    → quads_in (hash_among few) k n rs ≡ quads_in (hash_among all) k n rs
+same_quads few all hs k n same [] own = refl
+same_quads few all hs k n same (r ∷ rs) own =
+    let one : has few (quad_hash r) ≡ has all (quad_hash r) = same (quad_hash r) ∙ ap (λ b. has all (quad_hash r) && b) own.0 ∙ and_true (has all (quad_hash r)) in
+    let key : hash_among few r ≡ hash_among all r = ap (λ b. if b then Some (quad_hash r) else None) one in
+    let rest = same_quads few all hs k n same rs own.1 in
+    λ i. cond (has_key k n (key i)) (r ∷ rest i) (rest i)
+  where
+    and_true : (b : Bool) → (b && true) ≡ b
+    and_true true = refl
+    and_true false = refl
+
+-- without hashes there is no quad
+no_quads : (hashes : List ℕ) (k n : ℕ) → hashes ≡ [] → (qs : List QuadParts) → quads_in (hash_among hashes) k n qs ≡ []
+no_quads hashes k n none [] = refl
+no_quads hashes k n none (q ∷ qs) =
+    ap (λ hs. cond (has_key k n (hash_among hs q)) (q ∷ quads_in (hash_among hashes) k n qs) (quads_in (hash_among hashes) k n qs)) none ∙ no_quads hashes k n none qs
+
+empty : (xs : List ℕ) → (length xs == 0) ≡ true → xs ≡ []
+empty [] e = refl
+empty (x ∷ xs) e = absurd (omega (arith, eqb-true (length (x ∷ xs)) 0 e))
+
+-- the lists of a function of the elements, one after the other
+below_front : {X : Type 0} (f : ℕ → List X) (m : ℕ) → texts_below f (suc m) ≡ f 0 ++ texts_below (λ b. f (suc b)) m
+below_front f zero = sym (append-nil (f 0))
+below_front f (suc m) = ap (λ l. l ++ f (suc m)) (below_front f m) ∙ append_assoc (f 0) (texts_below (λ b. f (suc b)) m) (f (suc m))
+
+flat_below : (f : ℕ → List (List ℕ)) (g : List QuadParts → List (List ℕ)) (quads : List (List QuadParts)) → ((b : ℕ) → b < length quads → flat_map lines (f b) ≡ g (get_or quads b []))
+    → flat_map lines (texts_below f (length quads)) ≡ flat_map g quads
+flat_below f g [] h = refl
+flat_below f g (qs ∷ quads) h =
+    ap (flat_map lines) (below_front f (length quads)) ∙ flat_map-append lines (f 0) (texts_below (λ b. f (suc b)) (length quads))
+    ∙ (λ i. h 0 (omega arith) i ++ flat_below (λ b. f (suc b)) g quads (λ b low. h (suc b) (omega (arith, low))) i)
+
+lines_of_all : (f : List QuadParts → List QuadParts) (quads : List (List QuadParts)) → flat_map (λ qs. map quad_line (f qs)) quads ≡ map quad_line (flat_map f quads)
+lines_of_all f [] = refl
+lines_of_all f (qs ∷ quads) = ap (λ l. map quad_line (f qs) ++ l) (lines_of_all f quads) ∙ sym (map-append quad_line (f qs) (flat_map f quads))
+
+each_block : (quads : List (List QuadParts)) → Each (Each IsOfLine) quads → (block : ℕ) → Each IsOfLine (get_or quads block [])
+each_block [] good block = tt
+each_block (qs ∷ quads) good zero = good.0
+each_block (qs ∷ quads) good (suc block) = each_block quads good.1 block
+
+module _ (k : ℕ) (some : 0 < k) (quads : List (List QuadParts)) (good : Each (Each IsOfLine) quads) where
+  -- what is read again of a block
+  abbrev of_all : ℕ → List QuadParts → List QuadParts
+  of_all n qs = quads_in (hash_among (repeated_all k some quads)) k n qs
+
+  block_quads_again : (n block : ℕ) → block < length quads
+      → quads_in (hash_among (numbers_of (hashes_again k quads block))) k n (get_or quads block []) ≡ of_all n (get_or quads block [])
+  block_quads_again n block low =
+      same_quads (numbers_of (hashes_again k quads block)) (repeated_all k some quads) (of_block k some quads block) k n
+      (λ h. block_has k some quads block low h ∙ ap (λ b. b && has (of_block k some quads block) h) (sym (all_has k some quads h)))
+      (get_or quads block []) (own_hash (get_or quads block []))
+
+  block_lines : (n block : ℕ) → block < length quads → flat_map lines (block_again k quads n block) ≡ map quad_line (of_all n (get_or quads block []))
+  block_lines n block low = by (length hashes == 0) refl
+    where
+      hashes : List ℕ
+      hashes = numbers_of (hashes_again k quads block)
+
+      qs : List QuadParts
+      qs = get_or quads block []
+
+      found : List QuadParts
+      found = quads_in (hash_among hashes) k n qs
+
+      by : (b : Bool) → (length hashes == 0) ≡ b → flat_map lines (if b then [] else quad_document found ∷ []) ≡ map quad_line (of_all n qs)
+      by true e = ap (map quad_line) (sym (no_quads hashes k n (empty hashes e) qs) ∙ block_quads_again n block low)
+      by false e =
+          append-nil (lines (quad_document found))
+          ∙ lines_of_quads found (Each-filter IsOfLine (λ q. has_key k n (hash_among hashes q)) qs (each_block quads good block))
+          ∙ ap (map quad_line) (block_quads_again n block low)
+
+  counted_again : (n : ℕ) → distinct_lines (partition_again k quads n) ≡ length (without_repeats same_parts (again (repeated_all k some quads) k quads n))
+  counted_again n =
+      let found = again (repeated_all k some quads) k quads n in
+      let all : Each IsOfLine found =
+      Each-flat_map (Each IsOfLine) IsOfLine (of_all n) (λ qs h. Each-filter IsOfLine (λ q. has_key k n (hash_among (repeated_all k some quads) q)) qs h) quads good in
+      ap (λ l. length (without_repeats bytes_eq l))
+      (flat_below (block_again k quads n) (λ qs. map quad_line (of_all n qs)) quads (block_lines n) ∙ lines_of_all (of_all n) quads)
+      ∙ ap length (without_repeats-map IsOfLine same_parts bytes_eq quad_line line_eq found all)
+      ∙ length-map (without_repeats same_parts found) quad_line
+
 -- ---- the law
 
 pub quads_add_up : QuadsAddUp
-quads_add_up k blocks quads repeated counts some h rep c =
-    let hashes = texts_below repeated k in
+quads_add_up k blocks quads some h =
     let Q = joined quads in
     let hs = map quad_hash Q in
+    let repeated = repeated_all k some quads in
     let good = block_quads blocks quads h.statements in
-    let are : (n : ℕ) → AreRepeated (hashes_in k n hs) (repeated n) = λ n. subst (λ l. AreRepeated l (repeated n)) (gathered_hashes k n quads) (rep n) in
-    let known : (n : ℕ) → has hashes n ≡ is_repeated hs n = all_repeated k some hs repeated are in
-    sum_below-same (λ n. length (single (hashes_gathered k quads n)) + counts n)
-    (λ n. length (single (hashes_in k n hs)) + length (without_repeats same_parts (again hashes k quads n)))
-    (λ n i. length (single (gathered_hashes k n quads i)) + counted_again hashes k quads n (counts n) good (c n) i) k
-    ∙ sum_below-plus (λ n. length (single (hashes_in k n hs))) (λ n. length (without_repeats same_parts (again hashes k quads n))) k
-    ∙ (λ i. singles_add_up k some hs i + again_adds_up hashes k some quads i)
-    ∙ ap (λ (p : QuadParts → Bool). length (single hs) + length (without_repeats same_parts (filter p Q))) (λ i q. known (quad_hash q) i)
-    ∙ both_kinds Q
+    sum_below-same (λ n. length (single (numbers_of (partition_hashes k quads n))) + distinct_lines (partition_again k quads n))
+    (λ n. length (single (hashes_in k n hs)) + length (without_repeats same_parts (again repeated k quads n)))
+    (λ n i. length (single (gathered_hashes k n quads i)) + counted_again k some quads good n i) k
+    ∙ sum_below-plus (λ n. length (single (hashes_in k n hs))) (λ n. length (without_repeats same_parts (again repeated k quads n))) k
+    ∙ (λ i. singles_add_up k some hs i + again_adds_up repeated k some quads i)
+    ∙ ap (λ (p : QuadParts → Bool). length (single hs) + length (without_repeats same_parts (filter p Q))) (λ i q. all_has k some quads (quad_hash q) i)
+    ∙ both_kinds same_parts parts_decides quad_hash Q

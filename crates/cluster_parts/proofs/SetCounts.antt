@@ -1,14 +1,17 @@
 -- The number of distinct elements of a list, and of its partitions.
-use Rattle.std.proofs.Common.{eq-eqb, ◌≡◌, ℕ, zero, suc, ◌+◌, ◌<◌, ◌≤◌, Bool, true, false, cond, eqb, ◌&&◌, ◌||◌, List, [], ◌∷◌, length, filter, Decides, refl, sym, ap, ◌∙◌, ⊎_elim, arith}
+use Rattle.std.proofs.Common.{eq-eqb, ◌≡◌, ℕ, zero, suc, ◌+◌, ◌<◌, ◌≤◌, Bool, true, false, cond, eqb, not, ◌&&◌, ◌||◌, List, [], ◌∷◌, length, map, filter, Decides, refl, sym, ap, ◌∙◌, ⊎_elim, arith}
 use Rattle.std.specs.List.{list_any}
 use Rattle.std.proofs.lemmas.Bool.{cases_Bool, eqb-true, false≢true}
+use Rattle.std.specs.Str.{bytes_eq}
 use Rattle.std.proofs.lemmas.List.Sorted.{length_permutation}
+use Rattle.std.proofs.lemmas.Slice.Eq.{bytes_eq-Decides}
 use Rattle.algebra_model.specs.Bag.{IsWithoutRepeats, without_repeats}
 use Rattle.algebra_model.proofs.BagLaws.{permutation_from_counts}
 use Rattle.algebra_model.proofs.RepeatLaws.{IsWithoutRepeats-filter, IsWithoutRepeats-without_repeats, any-without_repeats_is, count_by-without_repeats}
 use Rattle.algebra_model.proofs.SolveLaws.{count_by_one}
 use Rattle.rdf_core.proofs.EscapeSteps.{eqb_no}
-use Rattle.cluster_parts.specs.Sums.{sum_below}
+use Rattle.quad_index.specs.Parts.{sum_below}
+use Rattle.cluster_parts.proofs.Each.{Each, Each-without_repeats}
 
 -- ---- sums
 
@@ -114,3 +117,36 @@ module _ {X : Type 0} (same : X → X → Bool) (decides : (x y : X) → Decides
       (λ x. are n x ∙ ap (λ b. eqb (part x) n && b) (sym (any-without_repeats_is same decides x xs)) ∙ sym (any-filter_is (λ y. eqb (part y) n) x all)))
       k
       ∙ sum_of_parts part k below all
+
+-- ---- distinct elements and their texts
+
+-- elements with different texts are compared by their texts
+pub same_text : {X : Type 0} (same : X → X → Bool) → ((x y : X) → Decides (same x y) (x ≡ y)) → (f : X → List ℕ) (x y : X) → (f x ≡ f y → x ≡ y) → bytes_eq (f x) (f y) ≡ same x y
+same_text same decides f x y apart = by (bytes_eq (f x) (f y)) (same x y) refl refl
+  where
+    by : (a b : Bool) → bytes_eq (f x) (f y) ≡ a → same x y ≡ b → a ≡ b
+    by true true p q = refl
+    by false false p q = refl
+    by true false p q = absurd (false≢true (sym q ∙ (decides x y).1 (apart ((bytes_eq-Decides (f x) (f y)).0 p))))
+    by false true p q = absurd (false≢true (sym p ∙ (bytes_eq-Decides (f x) (f y)).1 (ap f ((decides x y).0 q))))
+
+pub map-filter : {X Y : Type 0} (f : X → Y) (p : Y → Bool) (xs : List X) → filter p (map f xs) ≡ map f (filter (λ x. p (f x)) xs)
+map-filter f p [] = refl
+map-filter f p (x ∷ xs) = by (p (f x)) (map-filter f p xs)
+  where
+    by : (b : Bool) → filter p (map f xs) ≡ map f (filter (λ x. p (f x)) xs) → cond b (f x ∷ filter p (map f xs)) (filter p (map f xs)) ≡ map f (cond b (x ∷ filter (λ x. p (f x)) xs) (filter (λ x. p (f x)) xs))
+    by true e = ap (λ l. f x ∷ l) e
+    by false e = e
+
+-- a function that is one-to-one on the elements of a list, applied to the distinct ones
+pub without_repeats-map : {X Y : Type 0} (P : X → Type 0) (same : X → X → Bool) (same' : Y → Y → Bool) (f : X → Y) → ((x y : X) → P x → P y → same' (f x) (f y) ≡ same x y) → (xs : List X) → Each P xs
+    → without_repeats same' (map f xs) ≡ map f (without_repeats same xs)
+without_repeats-map P same same' f h [] good = refl
+without_repeats-map {X} P same same' f h (x ∷ xs) good =
+    let rest = without_repeats same xs in
+    ap (λ l. f x ∷ filter (λ y. not (same' (f x) y)) l) (without_repeats-map P same same' f h xs good.1)
+    ∙ ap (λ l. f x ∷ l) (map-filter f (λ y. not (same' (f x) y)) rest ∙ ap (map f) (agree rest (Each-without_repeats P same xs good.1)))
+  where
+    agree : (ys : List X) → Each P ys → filter (λ y. not (same' (f x) (f y))) ys ≡ filter (λ y. not (same x y)) ys
+    agree [] g = refl
+    agree (y ∷ ys) g = λ i. cond (not (h x y good.0 g.0 i)) (y ∷ agree ys g.1 i) (agree ys g.1 i)

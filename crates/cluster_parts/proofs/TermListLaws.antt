@@ -2,21 +2,18 @@
 use Rattle.std.proofs.Common.{◌≡◌, ℕ, zero, suc, ◌<◌, ◌%◌, ◌==◌, Bool, true, false, cond, not, ◌&&◌, ◌||◌, if◌then◌else◌, List, [], ◌∷◌, ◌++◌, length, map, filter, get_or, refl, sym, ap, subst, ◌∙◌, ⊎_elim, arith, eq-eqb, append-nil, append_assoc, length-append}
 use Rattle.std.specs.List.{flat_map, list_any}
 use Rattle.std.specs.Prelude.{⊤}
-use Rattle.std.specs.Str.{bytes_eq}
-use Rattle.std.proofs.lemmas.Bool.{cases_eq, false≢true}
+use Rattle.std.proofs.lemmas.Bool.{cases_eq}
 use Rattle.std.proofs.lemmas.Nat.{mod_below}
 use Rattle.std.proofs.lemmas.List.{get_or_append_left, get_or_push, map-append}
 use Rattle.std.proofs.lemmas.Grind.{flat_map-append}
 use Rattle.std.proofs.lemmas.List.Elements.{filter-append}
 use Rattle.std.proofs.lemmas.List.Folds.{list_any-append}
-use Rattle.std.proofs.lemmas.Slice.Eq.{bytes_eq-Decides}
 use Rattle.rdf_core.specs.declared.term.Term.{Term}
 use Rattle.rdf_core.specs.QuadParts.{QuadParts}
 use Rattle.rdf_core.specs.Serialization.{serialization}
 use Rattle.rdf_core.proofs.TermLaws.{term_eq, term_decides, term_eq_laws}
 use Rattle.nquads_core.specs.Lines.{lines}
 use Rattle.nquads_core.specs.Laws.{IsNQuadsTerm}
-use Rattle.nquads_core.proofs.Forms.{forms_are_distinct}
 use Rattle.dict_core.specs.Appearances.{terms_of, terms_of_quad, first_appearances, differs_from}
 use Rattle.algebra_model.proofs.RepeatLaws.{any-without_repeats_is}
 use Rattle.cluster_parts.specs.Hash.{term_hash}
@@ -26,7 +23,7 @@ use Rattle.cluster_parts.specs.Terms.{has_line, is_marked, line_list, lines_in, 
 use Rattle.cluster_parts.specs.Output.{AreFirst, IsKept}
 use Rattle.cluster_parts.specs.Laws.{TermsAreKept, block_terms, each_below, partition_terms}
 use Rattle.cluster_parts.proofs.Each.{Each, Each-append, Each-filter, Each-without_repeats}
-use Rattle.cluster_parts.proofs.DocumentLaws.{IsOfLine, block_quads, lines_of_terms, terms_of_lines}
+use Rattle.cluster_parts.proofs.DocumentLaws.{IsOfLine, block_quads, form_eq, lines_of_terms, terms_of_lines}
 use Rattle.cluster_parts.proofs.SetCounts.{any-filter_is}
 use Rattle.cluster_parts.proofs.AddUpLaws.{appearances_once, flat_map-joined}
 use Rattle.cluster_parts.proofs.TermSteps.{term_list, terms_lines}
@@ -92,17 +89,6 @@ each_appearances : (ts : List Term) → Each IsNQuadsTerm ts → Each IsNQuadsTe
 each_appearances ts good = subst (Each IsNQuadsTerm) (sym (appearances_once ts)) (Each-without_repeats IsNQuadsTerm term_eq ts good)
 
 -- ---- the lines of terms
-
-form_eq : (t u : Term) → IsNQuadsTerm t → IsNQuadsTerm u → bytes_eq (serialization t) (serialization u) ≡ term_eq t u
-form_eq t u good fine = by (bytes_eq (serialization t) (serialization u)) (term_eq t u) refl refl
-  where
-    by : (a b : Bool) → bytes_eq (serialization t) (serialization u) ≡ a → term_eq t u ≡ b → a ≡ b
-    by true true p q = refl
-    by false false p q = refl
-    by true false p q =
-        absurd (false≢true (sym q ∙ (term_decides t u).1 (forms_are_distinct t u good fine ((bytes_eq-Decides (serialization t) (serialization u)).0 p))))
-    by false true p q =
-        absurd (false≢true (sym p ∙ (bytes_eq-Decides (serialization t) (serialization u)).1 (ap serialization ((term_decides t u).0 q))))
 
 has_form : (us : List Term) (t : Term) → Each IsNQuadsTerm us → IsNQuadsTerm t → has_line (map serialization us) (serialization t) ≡ has_term us t
 has_form [] t good fine = refl

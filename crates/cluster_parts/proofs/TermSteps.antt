@@ -2,7 +2,7 @@
 use Rattle.std.proofs.Common.{◌≡◌, ℕ, zero, suc, ◌+◌, ◌<◌, ◌%◌, ◌==◌, Bool, true, false, cond, not, ◌||◌, if◌then◌else◌, eqb, List, [], ◌∷◌, ◌++◌, length, map, take, set, get_or, slice_get, codes, Some, refl, sym, ap, subst, ◌∙◌, ⊎_elim, arith, eq-eqb, ne_eqb, append-nil, append_assoc, length-append}
 use Rattle.std.specs.Prelude.{replicate}
 use Rattle.std.specs.Borrow.{Bor}
-use Rattle.std.specs.List.{flat_map, list_any}
+use Rattle.std.specs.List.{AllByRecursion, IsDistinct, flat_map, list_any}
 use Rattle.std.specs.Str.{bytes_eq}
 use Rattle.std.proofs.lemmas.Bool.{cases_eq, eqb-true}
 use Rattle.std.proofs.lemmas.Option.{slice_get_within}
@@ -13,16 +13,22 @@ use Rattle.std.proofs.lemmas.Slice.Eq.{bytes_eq-Decides}
 use Rattle.std.proofs.lemmas.Grind.{flat_map-append}
 use Rattle.indexmap.specs.IndexSet.{IndexSet, insert_key}
 use Rattle.rdf_core.specs.declared.term.Term.{Term}
+use Rattle.rdf_core.specs.QuadParts.{QuadParts}
 use Rattle.rdf_core.specs.Serialization.{serialization}
 use Rattle.nquads_core.specs.Lines.{lines}
 use Rattle.nquads_core.proofs.PieceLaws.{lines_nil}
-use Rattle.cluster_parts.specs.Hash.{hash, number_bytes, term_hash}
+use Rattle.dict_core.specs.declared.num_quad.NumQuad.{NumQuad}
+use Rattle.algebra_model.specs.Bag.{IsWithoutRepeats, without_repeats}
+use Rattle.algebra_model.specs.Dataset.{names}
+use Rattle.text_pieces.specs.Forms.{AreFormsOf, AreNumberedBy}
+use Rattle.cluster_parts.specs.Hash.{hash, number_bytes, quad_hash, term_hash}
 use Rattle.cluster_parts.specs.Seal.{all_sealed, sealed}
-use Rattle.cluster_parts.specs.Parts.{is_in, terms_in, texts_below}
+use Rattle.cluster_parts.specs.Parts.{hashes_in, is_in, number_list, terms_in, texts_below}
 use Rattle.cluster_parts.specs.Terms.{has_line, is_marked, line_list, lines_in, mark, marked_lines, marks, marks_in_turn, term_lines, term_line}
-use Rattle.cluster_parts.specs.Known.{AreKnown, AreTaken, known_lines, lines_part, lines_parts, texts_of}
-use Rattle.cluster_parts.specs.Output.{AreFirst, IsKept, terms_part, terms_parts}
+use Rattle.cluster_parts.specs.Known.{AreKnown, AreTaken, counted_part, known_lines, lines_part, lines_parts, texts_of}
+use Rattle.cluster_parts.specs.Output.{AreFirst, IsKept, check_parts, counting_part, terms_part, terms_parts}
 use Rattle.cluster_parts.proofs.PartSteps.{at_place, taken}
+use Rattle.cluster_parts.proofs.SetCounts.{length_of_set}
 
 -- ---- one more text of a list
 
@@ -52,6 +58,27 @@ terms_lines k n (t ∷ ts) =
 
 part_is : (k : ℕ) (ts : List Term) (n : ℕ) → lines_part k (map serialization ts) n ≡ terms_part k ts n
 part_is k ts n = ap (λ l. sealed l) (ap line_list (terms_lines k n ts) ∙ term_list (terms_in k n ts))
+
+-- the parts of a block
+pub counted_is : (k : ℕ) (ts names : List Term) (texts named : List (List ℕ)) (hashes : List ℕ) (n : ℕ) → texts ≡ map serialization ts → named ≡ map serialization names
+    → counted_part k texts named hashes n ≡ counting_part k ts names hashes n
+counted_is k ts names texts named hashes n is are =
+    (λ i. counted_part k (is i) (are i) hashes n) ∙ (λ i. part_is k ts n i ++ (part_is k names n i ++ sealed (number_list (hashes_in k n hashes))))
+
+pub counted_below : (k : ℕ) (ts names : List Term) (texts named : List (List ℕ)) (hashes : List ℕ) (n : ℕ) → texts ≡ map serialization ts → named ≡ map serialization names
+    → texts_below (counted_part k texts named hashes) n ≡ texts_below (counting_part k ts names hashes) n
+counted_below k ts names texts named hashes zero is are = refl
+counted_below k ts names texts named hashes (suc n) is are = λ i. counted_below k ts names texts named hashes n is are i ++ counted_is k ts names texts named hashes n is are i
+
+-- the number of lines, and the parts of a block
+pub check_parts_are : (k count : ℕ) (quads : List QuadParts) (texts : List (List ℕ)) (numbered : List NumQuad) (named : List (List ℕ)) (hashes out0 out1 out2 : List ℕ) → AreNumberedBy quads texts numbered
+    → AreFormsOf (names quads) named → hashes ≡ map quad_hash quads → out0 ≡ [] → out1 ≡ out0 ++ sealed (number_bytes count) → out2 ≡ out1 ++ texts_below (counted_part k texts named hashes) k
+    → out2 ≡ check_parts k count quads
+check_parts_are k count quads texts numbered named hashes out0 out1 out2 h are hashed none first second =
+    second ∙ ap (λ l. l ++ texts_below (counted_part k texts named hashes) k) (first ∙ ap (λ l. l ++ sealed (number_bytes count)) none)
+    ∙ ap (λ l. sealed (number_bytes count) ++ l)
+    (counted_below k h.terms (names quads) texts named hashes k h.forms.forms are.forms
+    ∙ (λ i. texts_below (counting_part k (h.numbered.0 i) (names quads) (hashed i)) k))
 
 parts_below : (k : ℕ) (ts : List Term) (n : ℕ) → texts_below (lines_part k (map serialization ts)) n ≡ texts_below (terms_part k ts) n
 parts_below k ts zero = refl
@@ -107,14 +134,59 @@ line_added keys line l = by (list_any (λ k. bytes_eq line.now k.now) keys) refl
 pub is_known : (keys : List (Bor (List ℕ))) (line : Bor (List ℕ)) → list_any (λ k. bytes_eq line.now k.now) keys ≡ has_line (texts_of keys) line.now
 is_known keys line = any_borrowed line.now keys
 
+none_equal : (k : Bor (List ℕ)) (keys : List (Bor (List ℕ))) → AllByRecursion (λ y. bytes_eq k.now y.now ≡ false) keys → list_any (bytes_eq k.now) (texts_of keys) ≡ false
+none_equal k [] a = refl
+none_equal k (y ∷ keys) a = λ i. a.0 i || none_equal k keys a.1 i
+
+distinct_texts : (keys : List (Bor (List ℕ))) → IsDistinct (λ x y. bytes_eq x.now y.now) keys → IsWithoutRepeats bytes_eq (texts_of keys)
+unfolding IsDistinct
+distinct_texts [] h = tt
+distinct_texts (k ∷ keys) h = (none_equal k keys h.0, distinct_texts keys h.1)
+
+-- the distinct lines of a set are its keys
+pub known_count : {S : Type 0} (ls : List (List ℕ)) (known : IndexSet (Bor (List ℕ)) S) → AreKnown ls known → IsDistinct (λ x y. bytes_eq x.now y.now) known.keys
+    → length known.keys ≡ length (without_repeats bytes_eq ls)
+known_count ls known h once =
+    sym (length_of_set bytes_eq bytes_eq-Decides ls (known_lines known) (distinct_texts known.keys once) (λ l. sym (h l)) ∙ length-map known.keys (λ k. k.now))
+
+-- ---- the lines of a list that are known
+
+-- what is known after these lines of a list were read
+pub record AreLinesRead {S : Type 0} (before : IndexSet (Bor (List ℕ)) S) (list : List ℕ) (read : List (List ℕ)) (rest : List ℕ) (known : IndexSet (Bor (List ℕ)) S) : Type 0 where
+  pub are_read : lines list ≡ read ++ lines rest
+  pub known_now : (earlier : List (List ℕ)) → AreKnown earlier before → AreKnown (earlier ++ read) known
+
+pub no_line : {S : Type 0} (known : IndexSet (Bor (List ℕ)) S) (list : List ℕ) → AreLinesRead known list [] list known
+no_line known list = record { are_read = refl; known_now = λ earlier h l. h l ∙ ap (λ e. has_line e l) (sym (append-nil earlier)) }
+
+pub one_more_line : {S : Type 0} (before known known' : IndexSet (Bor (List ℕ)) S) (list : List ℕ) (read : List (List ℕ)) (rest line after : List ℕ) → AreLinesRead before list read rest known
+    → lines rest ≡ line ∷ lines after → ((l : List ℕ) → has_line (known_lines known') l ≡ (has_line (known_lines known) l || bytes_eq l line))
+    → AreLinesRead before list (read ++ line ∷ []) after known'
+one_more_line before known known' list read rest line after h first added = record {
+  are_read = lines_push list read rest line after h.are_read first;
+  known_now = λ earlier k l.
+      added l ∙ ap (λ b. b || bytes_eq l line) (h.known_now earlier k l)
+      ∙ ap (λ b. has_line (earlier ++ read) l || b) (or_false (bytes_eq l line))
+      ∙ sym (list_any-append (bytes_eq l) (earlier ++ read) (line ∷ []))
+      ∙ ap (λ ls. has_line ls l) (append_assoc earlier read (line ∷ []));
+}
+  where
+    or_false : (b : Bool) → b ≡ (b || false)
+    or_false true = refl
+    or_false false = refl
+
+pub all_known_now : {S : Type 0} (before known : IndexSet (Bor (List ℕ)) S) (list : List ℕ) (read : List (List ℕ)) (rest : List ℕ) → AreLinesRead before list read rest known → rest ≡ []
+    → (earlier : List (List ℕ)) → AreKnown earlier before → AreKnown (earlier ++ lines list) known
+all_known_now before known list read rest h none earlier k l =
+    h.known_now earlier k l ∙ ap (λ ls. has_line (earlier ++ ls) l) (all_lines_read list read rest h.are_read none)
+
 -- ---- the marks of a list
 
 -- what is known after some lines of a list were read
 pub record IsMarking {S : Type 0} (before : IndexSet (Bor (List ℕ)) S) (list rest : List ℕ) (known : IndexSet (Bor (List ℕ)) S) (made : List ℕ) : Type 0 where
   pub read : List (List ℕ)
-  pub are_read : lines list ≡ read ++ lines rest
+  pub lines_read : AreLinesRead before list read rest known
   pub marked : (earlier : List (List ℕ)) → AreKnown earlier before → made ≡ marks earlier read
-  pub known_now : (earlier : List (List ℕ)) → AreKnown earlier before → AreKnown (earlier ++ read) known
 
 marks_push : (earlier read : List (List ℕ)) (l : List ℕ) → marks earlier (read ++ l ∷ []) ≡ marks earlier read ++ mark (not (has_line (earlier ++ read) l)) ∷ []
 marks_push earlier [] l = ap (λ e. mark (not (has_line e l)) ∷ []) (sym (append-nil earlier))
@@ -123,12 +195,7 @@ marks_push earlier (r ∷ read) l =
     (marks_push (earlier ++ r ∷ []) read l ∙ ap (λ e. marks (earlier ++ r ∷ []) read ++ mark (not (has_line e l)) ∷ []) (append_assoc earlier (r ∷ []) read))
 
 pub none_marked : {S : Type 0} (known : IndexSet (Bor (List ℕ)) S) (list made : List ℕ) → made ≡ [] → IsMarking known list list known made
-none_marked known list made none = record {
-  read = [];
-  are_read = refl;
-  marked = λ earlier h. none;
-  known_now = λ earlier h l. h l ∙ ap (λ e. has_line e l) (sym (append-nil earlier));
-}
+none_marked known list made none = record { read = []; lines_read = no_line known list; marked = λ earlier h. none }
 
 pub one_more_mark : {S : Type 0} (before known known' : IndexSet (Bor (List ℕ)) S) (list rest line after made made' : List ℕ) (is_new : Bool) → IsMarking before list rest known made
     → lines rest ≡ line ∷ lines after → is_new ≡ not (has_line (known_lines known) line)
@@ -136,75 +203,87 @@ pub one_more_mark : {S : Type 0} (before known known' : IndexSet (Bor (List ℕ)
     → made' ≡ made ++ mark is_new ∷ [] → IsMarking before list after known' made'
 one_more_mark before known known' list rest line after made made' is_new h first new added pushed = record {
   read = h.read ++ line ∷ [];
-  are_read = lines_push list h.read rest line after h.are_read first;
+  lines_read = one_more_line before known known' list h.read rest line after h.lines_read first added;
   marked = λ earlier k.
-      pushed ∙ (λ i. h.marked earlier k i ++ mark ((new ∙ ap not (h.known_now earlier k line)) i) ∷ []) ∙ sym (marks_push earlier h.read line);
-  known_now = λ earlier k l.
-      added l ∙ ap (λ b. b || bytes_eq l line) (h.known_now earlier k l)
-      ∙ ap (λ b. has_line (earlier ++ h.read) l || b) (or_false (bytes_eq l line))
-      ∙ sym (list_any-append (bytes_eq l) (earlier ++ h.read) (line ∷ []))
-      ∙ ap (λ ls. has_line ls l) (append_assoc earlier h.read (line ∷ []));
+      pushed ∙ (λ i. h.marked earlier k i ++ mark ((new ∙ ap not (h.lines_read.known_now earlier k line)) i) ∷ []) ∙ sym (marks_push earlier h.read line);
 }
-  where
-    or_false : (b : Bool) → b ≡ (b || false)
-    or_false true = refl
-    or_false false = refl
 
 pub all_marked : {S : Type 0} (before known : IndexSet (Bor (List ℕ)) S) (list rest made : List ℕ) → IsMarking before list rest known made → rest ≡ []
     → ((earlier : List (List ℕ)) → AreKnown earlier before → made ≡ marks earlier (lines list))
     × ((earlier : List (List ℕ)) → AreKnown earlier before → AreKnown (earlier ++ lines list) known)
-all_marked before known list rest made h none =
-    let whole = all_lines_read list h.read rest h.are_read none in (
-      λ earlier k. h.marked earlier k ∙ ap (marks earlier) whole,
-      λ earlier k l. h.known_now earlier k l ∙ ap (λ ls. has_line (earlier ++ ls) l) whole,
-    )
+all_marked before known list rest made h none = (
+  λ earlier k. h.marked earlier k ∙ ap (marks earlier) (all_lines_read list h.read rest h.lines_read.are_read none),
+  all_known_now before known list h.read rest h.lines_read none,
+)
 
--- ---- the lists of a partition, one after the other
+-- ---- sealed lists, one after the other
 
--- what is known after some of the sealed lists were read
-pub record AreRead {S : Type 0} (bytes rest : List ℕ) (known : IndexSet (Bor (List ℕ)) S) (out : List ℕ) : Type 0 where
-  pub texts : List (List ℕ)
+-- what is known after these sealed texts were read
+pub record AreTextsRead {S : Type 0} (bytes : List ℕ) (texts : List (List ℕ)) (rest : List ℕ) (known : IndexSet (Bor (List ℕ)) S) : Type 0 where
   pub unsealed : bytes ≡ all_sealed texts ++ rest
-  pub all_known : AreKnown (flat_map (λ l. l) (map lines texts)) known
-  pub wrote : out ≡ all_sealed (marks_in_turn [] (map lines texts))
-
--- one more list after the others
-turn_more : (earlier : List (List ℕ)) (lists : List (List (List ℕ))) (ls : List (List ℕ))
-    → marks_in_turn earlier (lists ++ ls ∷ []) ≡ marks_in_turn earlier lists ++ marks (earlier ++ flat_map (λ l. l) lists) ls ∷ []
-turn_more earlier [] ls = ap (λ e. marks e ls ∷ []) (sym (append-nil earlier))
-turn_more earlier (xs ∷ lists) ls =
-    ap (λ l. marks earlier xs ∷ l) (turn_more (earlier ++ xs) lists ls
-    ∙ ap (λ l. marks_in_turn (earlier ++ xs) lists ++ marks l ls ∷ []) (append_assoc earlier xs (flat_map (λ l. l) lists)))
+  pub all_known : AreKnown (flat_map lines texts) known
 
 sealed_push : (texts : List (List ℕ)) (bytes rest text after : List ℕ) → bytes ≡ all_sealed texts ++ rest → rest ≡ sealed text ++ after → bytes ≡ all_sealed (texts ++ text ∷ []) ++ after
 sealed_push texts bytes rest text after all first =
     all ∙ ap (λ l. all_sealed texts ++ l) first ∙ sym (append_assoc (all_sealed texts) (sealed text) after)
     ∙ ap (λ l. l ++ after) (ap (λ l. all_sealed texts ++ l) (sym (append-nil (sealed text))) ∙ sym (flat_map-append sealed texts (text ∷ [])))
 
-pub one_more_read : {S : Type 0} (bytes rest text after : List ℕ) (known known' : IndexSet (Bor (List ℕ)) S) (made out out' : List ℕ) → AreRead bytes rest known out
+pub no_text : {S : Type 0} (bytes : List ℕ) (known : IndexSet (Bor (List ℕ)) S) → known.keys ≡ [] → AreTextsRead bytes [] bytes known
+no_text bytes known none = record { unsealed = refl; all_known = λ l. ap (λ keys. has_line (texts_of keys) l) none }
+
+pub one_more_text_known : {S : Type 0} (bytes : List ℕ) (texts : List (List ℕ)) (rest text after : List ℕ) (known known' : IndexSet (Bor (List ℕ)) S) → AreTextsRead bytes texts rest known
+    → rest ≡ sealed text ++ after → ((earlier : List (List ℕ)) → AreKnown earlier known → AreKnown (earlier ++ lines text) known')
+    → AreTextsRead bytes (texts ++ text ∷ []) after known'
+one_more_text_known bytes texts rest text after known known' h first grown = record {
+  unsealed = sealed_push texts bytes rest text after h.unsealed first;
+  all_known = λ l. grown (flat_map lines texts) h.all_known l
+      ∙ ap (λ ls. has_line (flat_map lines texts ++ ls) l) (sym (append-nil (lines text)))
+      ∙ ap (λ ls. has_line ls l) (sym (flat_map-append lines texts (text ∷ [])));
+}
+
+pub all_texts : (bytes : List ℕ) (texts : List (List ℕ)) (rest : List ℕ) → bytes ≡ all_sealed texts ++ rest → rest ≡ [] → bytes ≡ all_sealed texts
+all_texts bytes texts rest all none = all ∙ ap (λ l. all_sealed texts ++ l) none ∙ append-nil (all_sealed texts)
+
+-- ---- the lists of a partition, one after the other
+
+-- what is known and written after some of the sealed lists were read
+pub record AreMarked {S : Type 0} (bytes rest : List ℕ) (known : IndexSet (Bor (List ℕ)) S) (out : List ℕ) : Type 0 where
+  pub texts : List (List ℕ)
+  pub texts_read : AreTextsRead bytes texts rest known
+  pub wrote : out ≡ all_sealed (marks_in_turn [] (map lines texts))
+
+-- one more list after the others
+turn_more : (earlier : List (List ℕ)) (texts : List (List ℕ)) (ls : List (List ℕ))
+    → marks_in_turn earlier (map lines texts ++ ls ∷ []) ≡ marks_in_turn earlier (map lines texts) ++ marks (earlier ++ flat_map lines texts) ls ∷ []
+turn_more earlier [] ls = ap (λ e. marks e ls ∷ []) (sym (append-nil earlier))
+turn_more earlier (t ∷ texts) ls =
+    ap (λ l. marks earlier (lines t) ∷ l) (turn_more (earlier ++ lines t) texts ls
+    ∙ ap (λ l. marks_in_turn (earlier ++ lines t) (map lines texts) ++ marks l ls ∷ []) (append_assoc earlier (lines t) (flat_map lines texts)))
+
+pub none_listed : {S : Type 0} (bytes : List ℕ) (known : IndexSet (Bor (List ℕ)) S) (out : List ℕ) → known.keys ≡ [] → out ≡ [] → AreMarked bytes bytes known out
+none_listed bytes known out none empty = record { texts = []; texts_read = no_text bytes known none; wrote = empty }
+
+pub one_more_listed : {S : Type 0} (bytes rest text after : List ℕ) (known known' : IndexSet (Bor (List ℕ)) S) (made out out' : List ℕ) → AreMarked bytes rest known out
     → rest ≡ sealed text ++ after
     → ((earlier : List (List ℕ)) → AreKnown earlier known → made ≡ marks earlier (lines text))
     → ((earlier : List (List ℕ)) → AreKnown earlier known → AreKnown (earlier ++ lines text) known')
-    → out' ≡ out ++ sealed made → AreRead bytes after known' out'
-one_more_read bytes rest text after known known' made out out' h first marked grown pushed =
-    let earlier = flat_map (λ l. l) (map lines h.texts) in
+    → out' ≡ out ++ sealed made → AreMarked bytes after known' out'
+one_more_listed bytes rest text after known known' made out out' h first marked grown pushed =
+    let earlier = flat_map lines h.texts in
     let more : map lines (h.texts ++ text ∷ []) ≡ map lines h.texts ++ lines text ∷ [] = map-append lines h.texts (text ∷ []) in
     record {
       texts = h.texts ++ text ∷ [];
-      unsealed = sealed_push h.texts bytes rest text after h.unsealed first;
-      all_known = λ l. grown earlier h.all_known l
-          ∙ ap (λ ls. has_line (earlier ++ ls) l) (sym (append-nil (lines text)))
-          ∙ ap (λ ls. has_line ls l) (sym (flat_map-append (λ l. l) (map lines h.texts) (lines text ∷ [])) ∙ ap (flat_map (λ l. l)) (sym more));
-      wrote = pushed ∙ (λ i. h.wrote i ++ sealed (marked earlier h.all_known i))
+      texts_read = one_more_text_known bytes h.texts rest text after known known' h.texts_read first grown;
+      wrote = pushed ∙ (λ i. h.wrote i ++ sealed (marked earlier h.texts_read.all_known i))
           ∙ ap (λ l. all_sealed (marks_in_turn [] (map lines h.texts)) ++ l) (sym (append-nil (sealed (marks earlier (lines text)))))
           ∙ sym (flat_map-append sealed (marks_in_turn [] (map lines h.texts)) (marks earlier (lines text) ∷ []))
-          ∙ ap all_sealed (sym (turn_more [] (map lines h.texts) (lines text)) ∙ ap (marks_in_turn []) (sym more));
+          ∙ ap all_sealed (sym (turn_more [] h.texts (lines text)) ∙ ap (marks_in_turn []) (sym more));
     }
 
-pub all_read : {S : Type 0} (bytes rest : List ℕ) (known : IndexSet (Bor (List ℕ)) S) (out : List ℕ) → AreRead bytes rest known out → rest ≡ []
+pub all_listed : {S : Type 0} (bytes rest : List ℕ) (known : IndexSet (Bor (List ℕ)) S) (out : List ℕ) → AreMarked bytes rest known out → rest ≡ []
     → (texts : List (List ℕ)) × (firsts : List (List ℕ)) × (bytes ≡ all_sealed texts) × AreFirst texts firsts × (out ≡ all_sealed firsts)
-all_read bytes rest known out h none =
-    (h.texts, marks_in_turn [] (map lines h.texts), h.unsealed ∙ ap (λ l. all_sealed h.texts ++ l) none ∙ append-nil (all_sealed h.texts), refl, h.wrote)
+all_listed bytes rest known out h none =
+    (h.texts, marks_in_turn [] (map lines h.texts), all_texts bytes h.texts rest h.texts_read.unsealed none, refl, h.wrote)
 
 -- ---- borrowed texts
 

@@ -6,6 +6,5 @@ pub mod Terms
 pub mod Known
 pub mod Keys
 pub mod Output
-pub mod NumberedHash
-pub mod Sums
+pub mod Numbered
 pub mod Laws

@@ -1,24 +1,24 @@
 -- What the commands write (choices of this project).
 use Rattle.std.specs.Prelude.{◌≡◌, ℕ, ◌<◌, List, [], ◌++◌, Option, Some, None, is_none, map, filter, get_or, length, if◌then◌else◌}
+use Rattle.std.specs.List.{flat_map}
+use Rattle.std.specs.Str.{bytes_eq}
 use Rattle.rdf_core.specs.declared.term.Term.{Term}
 use Rattle.rdf_core.specs.QuadParts.{QuadParts}
 use Rattle.nquads_core.specs.Lines.{lines}
-use Rattle.nquads_core.specs.Pieces.{HaveStatements}
 use Rattle.dict_core.specs.Appearances.{terms_of, first_appearances}
 use Rattle.algebra_model.specs.Bag.{without_repeats}
 use Rattle.algebra_model.specs.Dataset.{names}
-use Rattle.quad_index.specs.Laws.{same_parts}
 use Rattle.cluster_parts.specs.Hash.{number_bytes, quad_hash}
 use Rattle.cluster_parts.specs.Seal.{sealed}
-use Rattle.cluster_parts.specs.Parts.{term_document, terms_in, hashes_in, number_list, quad_document, quads_in, texts_below}
-use Rattle.cluster_parts.specs.Repeated.{has, is_repeated}
+use Rattle.cluster_parts.specs.Parts.{terms_in, hashes_in, number_list, quad_document, quads_in, texts_below}
+use Rattle.cluster_parts.specs.Repeated.{has}
 use Rattle.cluster_parts.specs.Terms.{line_list, lines_in, marked_lines, marks_in_turn, term_lines}
 
--- three sealed texts: terms and graph names of a partition, and its hashes
+-- three sealed texts: terms and graph names of a partition, each on a line, and its hashes
 abbrev pub counting_part : ℕ → List Term → List Term → List ℕ → ℕ → List ℕ
 counting_part partitions terms names hashes number =
-    sealed (term_document (terms_in partitions number terms))
-    ++ (sealed (term_document (terms_in partitions number names))
+    sealed (term_lines (terms_in partitions number terms))
+    ++ (sealed (term_lines (terms_in partitions number names))
     ++ sealed (number_list (hashes_in partitions number hashes)))
 
 -- `split check`: the number of lines, and for each partition its distinct terms, its distinct graph names, and the hashes
@@ -46,15 +46,9 @@ keyed_parts key partitions count quads =
     sealed (number_bytes count)
     ++ (sealed (quad_document (filter (λ q. is_none (key q)) quads)) ++ texts_below (quads_part key partitions quads) partitions)
 
--- the number of distinct quads of a document
-pub record IsCountOf (document : List ℕ) (count : ℕ) : Type 0 where
-  pub quads : List QuadParts
-  pub statements : HaveStatements (lines document) quads
-  pub counted : count ≡ length (without_repeats same_parts quads)
-
--- the hashes that are in a list at two places or more
-abbrev pub AreRepeated : List ℕ → List ℕ → Type 0
-AreRepeated hashes repeated = (h : ℕ) → has repeated h ≡ is_repeated hashes h
+-- `count`: the number of distinct lines of some texts
+abbrev pub distinct_lines : List (List ℕ) → ℕ
+distinct_lines texts = length (without_repeats bytes_eq (flat_map lines texts))
 
 -- the sealed terms of a partition
 abbrev pub terms_part : ℕ → List Term → ℕ → List ℕ

@@ -3,7 +3,7 @@ use Rattle.std.specs.Prelude.{ℕ, zero, suc, Bool, false, ◌%◌, ◌++◌, �
 use Rattle.std.specs.List.{flat_map}
 use Rattle.rdf_core.specs.declared.term.Term.{Term}
 use Rattle.rdf_core.specs.QuadParts.{QuadParts}
-use Rattle.nquads_core.specs.Laws.{object_line, quad_line}
+use Rattle.nquads_core.specs.Laws.{quad_line}
 use Rattle.cluster_parts.specs.Hash.{number_bytes, term_hash}
 
 -- the partition of this number has this hash, if there are this many partitions
@@ -27,14 +27,6 @@ has_key partitions number (Some h) = is_in partitions number h
 abbrev pub quads_in : (QuadParts → Option ℕ) → ℕ → ℕ → List QuadParts → List QuadParts
 quads_in key partitions number quads = filter (λ q. has_key partitions number (key q)) quads
 
--- a term as the object of a statement, whose subject and predicate are always the same
-abbrev pub term_statement : Term → List ℕ
-term_statement t = object_line t ++ codes "\n"
-
--- terms as a document of N-Quads
-abbrev pub term_document : List Term → List ℕ
-term_document terms = flat_map term_statement terms
-
 -- a quad in canonical form, on a line of its own
 abbrev pub quad_statement : QuadParts → List ℕ
 quad_statement q = quad_line q ++ codes "\n"
@@ -47,7 +39,7 @@ quad_document quads = flat_map quad_statement quads
 abbrev pub number_list : List ℕ → List ℕ
 number_list numbers = flat_map number_bytes numbers
 
--- the texts of the partitions 0, 1, .., one after the other
-abbrev pub texts_below : (ℕ → List ℕ) → ℕ → List ℕ
+-- the lists with the numbers 0, 1, .., one after the other
+abbrev pub texts_below : {X : Type 0} → (ℕ → List X) → ℕ → List X
 texts_below text zero = []
 texts_below text (suc n) = texts_below text n ++ text n

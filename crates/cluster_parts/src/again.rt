@@ -5,21 +5,22 @@ ghost use Rattle.rdf_core.specs.QuadParts.{QuadParts};
 ghost use Rattle.nquads_core.specs.Lines.{lines};
 ghost use Rattle.nquads_core.specs.Pieces.{HaveStatements, IsFirstMalformed};
 ghost use Rattle.nquads_core.specs.declared.fault.PieceFault.TheVariants.{BadLine};
+ghost use Rattle.cluster_parts.specs.Numbered.{AreQuadsOf};
 ghost use Rattle.cluster_parts.specs.Output.{again_parts};
 
-use crate::counting::set_of;
-use crate::hashing::hashes_of;
+use crate::hashing::text_hashes;
 use crate::keyed::push_keyed_parts;
-use crate::numbering::number_lines;
+use crate::numbering::{NumberedLines, number_lines};
 use crate::quad_hashes::quad_hashes_of;
-use dict_core::LocalPiece;
+use crate::repeated::set_of;
 use indexmap::IndexSet;
+use keyed_hash::HashState;
 use nquads_core::PieceFault;
 use std::alloc::{AllocError, Global};
 use std::hash::RandomState;
 
 /// Returns the hash, if the set has it.
-fn key_among(set: &IndexSet<u64, RandomState>, hash: u64) -> Option<u64>
+fn key_among(set: &IndexSet<u64, HashState>, hash: u64) -> Option<u64>
     ensures key { result ≡ (if contains nat_eq set.now hash then Some hash else None) }
 {
     if set.contains(&hash) {
@@ -33,7 +34,7 @@ fn key_among(set: &IndexSet<u64, RandomState>, hash: u64) -> Option<u64>
 fn keys_among(
     alloc: Global,
     quad_hashes: &[u64],
-    set: &IndexSet<u64, RandomState>,
+    set: &IndexSet<u64, HashState>,
 ) -> Result<Vec<Option<u64>>, AllocError>
     ensures keys { IfOk result (λ keys. keys.items
         ≡ map (λ h. if contains nat_eq set.now h then Some h else None) quad_hashes.now) }
@@ -49,19 +50,21 @@ fn keys_among(
 fn parts_again(
     alloc: Global,
     state: RandomState,
-    piece: &LocalPiece,
+    block: &NumberedLines,
     hashes: &[u64],
     partitions: u64,
 ) -> Result<Vec<u8>, AllocError>
+    requires read { (quads : List QuadParts) × AreQuadsOf quads block.now }
     requires some { 0 < partitions }
-    ensures parts { IfOk result (λ out. out.items ≡ again_parts hashes.now partitions piece.now) }
+    ensures parts { IfOk result (λ out. (quads : List QuadParts) → AreQuadsOf quads block.now
+        → out.items ≡ again_parts hashes.now partitions quads) }
 {
-    let term_hashes = hashes_of(alloc, piece.dict())?;
-    let quad_hashes = quad_hashes_of(alloc, term_hashes.as_slice(), piece)?;
+    let term_hashes = text_hashes(alloc, &block.texts)?;
+    let quad_hashes = quad_hashes_of(alloc, term_hashes.as_slice(), block)?;
     let set = set_of(alloc, state, hashes)?;
     let keys = keys_among(alloc, quad_hashes.as_slice(), &set)?;
     let mut out = Vec::new(alloc);
-    push_keyed_parts(alloc, &mut out, piece, keys.as_slice(), partitions)?;
+    push_keyed_parts(alloc, &mut out, block, keys.as_slice(), partitions)?;
     Ok(out)
 }
 
@@ -88,7 +91,7 @@ pub fn split_again(
         (λ fault. (k : ℕ) → fault ≡ BadLine k → IsFirstMalformed (lines block.now) k) }
 {
     let numbered = number_lines(alloc, state, block)?;
-    match parts_again(alloc, state, &numbered.piece, hashes, partitions) {
+    match parts_again(alloc, state, &numbered, hashes, partitions) {
         Ok(out) => Ok(out),
         Err(_) => Err(PieceFault::Memory),
     }

@@ -1,126 +1,59 @@
-//! What is distinct in one partition.
-ghost use Rattle.std.specs.Prelude.{◌≡◌, ℕ, not, length, filter, IfErr, IfOk, OnOk, nat_eq};
-ghost use Rattle.indexmap.specs.IndexSet.{contains, insert_key};
+//! The number of distinct lines.
+ghost use Rattle.std.specs.Prelude.{◌≡◌, ◌++◌, [], List, ℕ, length, IfOk, OnOk};
+ghost use Rattle.std.specs.Str.{bytes_eq};
 ghost use Rattle.algebra_model.specs.Bag.{without_repeats};
-ghost use Rattle.quad_index.specs.Laws.{same_parts};
 ghost use Rattle.nquads_core.specs.Lines.{lines};
-ghost use Rattle.nquads_core.specs.Pieces.{IsFirstMalformed};
-ghost use Rattle.nquads_core.specs.declared.fault.PieceFault.TheVariants.{BadLine};
-ghost use Rattle.cluster_parts.specs.Output.{AreRepeated, IsCountOf};
-ghost use Rattle.cluster_parts.specs.Repeated.{has, single};
+ghost use Rattle.cluster_parts.specs.Seal.{all_sealed};
+ghost use Rattle.cluster_parts.specs.Known.{AreKnown};
+ghost use Rattle.cluster_parts.specs.Output.{distinct_lines};
 
-use crate::numbering::number_lines;
-use dict_core::LocalPiece;
+use crate::known_lines::add_line;
+use crate::sealing::{SealFault, first_sealed};
 use indexmap::IndexSet;
-use nquads_core::PieceFault;
-use quad_index::{count_quads, index_counts_the_quads};
+use keyed_hash::HashState;
+use nquads_core::first_line;
 use std::alloc::{AllocError, Global};
 use std::hash::RandomState;
 
-/// Counts the distinct quads that a block has.
-fn count_piece(alloc: Global, piece: &LocalPiece) -> Result<u64, AllocError>
-    ensures count { IfOk result (λ n. n ≡ length (without_repeats same_parts piece.now)) }
+/// Adds the lines of a text to those that are known.
+fn add_lines<'a>(
+    known: &mut IndexSet<&'a [u8], HashState>,
+    text: &'a [u8],
+) -> Result<(), AllocError>
+    ensures known { OnOk result ((earlier : List (List ℕ)) → AreKnown earlier known.old
+        → AreKnown (earlier ++ lines text.now) known.new) }
 {
-    index_counts_the_quads();
-    let quads = Vec::from_slice(alloc, piece.quads())?;
-    let counts = count_quads(alloc, quads)?;
-    Ok(counts.quads)
+    let mut rest = text;
+    while !rest.is_empty() {
+        let (line, after) = first_line(rest);
+        add_line(known, line)?;
+        rest = after;
+    }
+    Ok(())
 }
 
-/// Returns the number of distinct quads of a document.
+/// Returns how many lines are known.
+fn count_known(known: &IndexSet<&[u8], HashState>) -> u64
+    ensures count { (ls : List (List ℕ)) → AreKnown ls known.now → result ≡ length (without_repeats bytes_eq ls) }
+{
+    known.len() as u64
+}
+
+/// Returns the number of distinct lines of sealed texts (`distinct_lines`).
 ///
 /// # Errors
-/// - `BadLine(k)` if line k of the document, counted from 0, is the first that is malformed.
+/// - `Version` if a text begins with another head.
+/// - `Damaged` if a text is shorter than its length says, or has another checksum.
 /// - `Memory` if an allocation fails.
-pub fn count_statements(
-    alloc: Global,
-    state: RandomState,
-    document: &[u8],
-) -> Result<u64, PieceFault>
-    ensures count { IfOk result (IsCountOf document.now) }
-    ensures bad_line { IfErr result
-        (λ fault. (k : ℕ) → fault ≡ BadLine k → IsFirstMalformed (lines document.now) k) }
+pub fn count_lines(alloc: Global, state: RandomState, bytes: &[u8]) -> Result<u64, SealFault>
+    ensures count { IfOk result (λ n. (texts : List (List ℕ)) × (bytes.now ≡ all_sealed texts) × (n ≡ distinct_lines texts)) }
 {
-    let numbered = number_lines(alloc, state, document)?;
-    match count_piece(alloc, &numbered.piece) {
-        Ok(count) => Ok(count),
-        Err(_) => Err(PieceFault::Memory),
+    let mut known = IndexSet::with_hasher(alloc, HashState::new(state));
+    let mut rest = bytes;
+    while !rest.is_empty() {
+        let (text, after) = first_sealed(rest)?;
+        add_lines(&mut known, text)?;
+        rest = after;
     }
-}
-
-/// Adds a number to a set, and returns whether it is new.
-fn add_number(set: &mut IndexSet<u64, RandomState>, number: u64) -> Result<bool, AllocError>
-    ensures new { IfOk result (λ is_new. is_new ≡ not (contains nat_eq set.old number)) }
-    ensures set { OnOk result (set.new.keys ≡ insert_key nat_eq set.old.keys number) }
-{
-    match set.insert(number) {
-        Ok(is_new) => Ok(is_new),
-        Err(_) => Err(AllocError),
-    }
-}
-
-/// Returns the set of some numbers.
-pub(crate) fn set_of(
-    alloc: Global,
-    state: RandomState,
-    numbers: &[u64],
-) -> Result<IndexSet<u64, RandomState>, AllocError>
-    ensures set { IfOk result (λ set. (n : ℕ) → contains nat_eq set n ≡ has numbers.now n) }
-{
-    let mut set = IndexSet::with_hasher(alloc, state);
-    for number in numbers {
-        add_number(&mut set, *number)?;
-    }
-    Ok(set)
-}
-
-/// Returns the hashes that are in the list at two places or more. One of these may be returned more than once.
-///
-/// # Errors
-/// `AllocError` if an allocation fails.
-pub fn repeated_hashes(
-    alloc: Global,
-    state: RandomState,
-    hashes: &[u64],
-) -> Result<Vec<u64>, AllocError>
-    ensures repeated { IfOk result (λ repeated. AreRepeated hashes.now repeated.items) }
-{
-    let mut seen = IndexSet::with_hasher(alloc, state);
-    let mut repeated = Vec::new(alloc);
-    for hash in hashes {
-        if !add_number(&mut seen, *hash)? {
-            repeated.push(*hash)?;
-        }
-    }
-    Ok(repeated)
-}
-
-/// Returns how many of the hashes are in the list once. `repeated` are the others.
-///
-/// # Errors
-/// `AllocError` if an allocation fails.
-pub fn count_single(
-    alloc: Global,
-    state: RandomState,
-    hashes: &[u64],
-    repeated: &[u64],
-) -> Result<u64, AllocError>
-    requires repeated { AreRepeated hashes.now repeated.now }
-    ensures count { IfOk result (λ n. n ≡ length (single hashes.now)) }
-{
-    let set = set_of(alloc, state, repeated)?;
-    Ok(count_others(hashes, &set))
-}
-
-/// Counts the hashes that are not in the set.
-fn count_others(hashes: &[u64], set: &IndexSet<u64, RandomState>) -> u64
-    ensures count { result ≡ length (filter (λ h. not (contains nat_eq set.now h)) hashes.now) }
-{
-    let mut count = 0;
-    for hash in hashes {
-        if !set.contains(hash) {
-            count += 1;
-        }
-    }
-    count
+    Ok(count_known(&known))
 }

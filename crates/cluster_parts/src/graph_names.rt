@@ -1,83 +1,70 @@
 //! The graph names of the quads of a block.
-ghost use Rattle.std.specs.Prelude.{◌≡◌, IfOk, OnOk, [], Some, length, slice_get};
+ghost use Rattle.std.specs.Prelude.{◌≡◌, ◌<◌, IfOk, OnOk, [], List, length};
 ghost use Rattle.std.specs.Option.{option_to_list};
-ghost use Rattle.indexmap.specs.IndexSet.{insert_all, insert_key};
+ghost use Rattle.indexmap.specs.IndexSet.{insert_all};
+ghost use Rattle.rdf_core.specs.declared.term.Term.{Term};
 ghost use Rattle.rdf_core.specs.Equality.{term_eq};
-ghost use Rattle.dict_core.specs.NumQuad.{AreBelow, IsBelow, quad_at, quads_at};
+ghost use Rattle.rdf_core.specs.QuadParts.{QuadParts};
+ghost use Rattle.dict_core.specs.NumQuad.{AreBelow, IsBelow, quad_at};
 ghost use Rattle.algebra_model.specs.Dataset.{names};
+ghost use Rattle.text_dict.specs.TextDict.{IsAdded};
+ghost use Rattle.text_pieces.specs.Forms.{AreFormsOf, AreNumberedBy};
+ghost use Rattle.cluster_parts.specs.Numbered.{AreQuadsOf, text_at};
 
-use dict_core::{Dict, LocalPiece, NumQuad};
-use rdf_core::Term;
+use crate::numbering::{NumberedLines, text_of};
+use dict_core::NumQuad;
 use std::alloc::{AllocError, Global};
 use std::hash::RandomState;
+use text_dict::TextDict;
 
-/// Returns the number of a name. A new name is appended.
-fn number_name(known: &mut Dict, name: Term) -> Result<u64, AllocError>
-    ensures names { OnOk result (known.new ≡ insert_key term_eq known.old name) }
-    ensures number { IfOk result (λ n. slice_get known.new n ≡ Some name) }
+/// Adds the text with this number to the names, if it is not among them.
+fn add_name(known: &mut TextDict, texts: &TextDict, number: u64) -> Result<(), AllocError>
+    requires below { number < length texts.now.texts }
+    ensures names { OnOk result (IsAdded known.old.texts (text_at texts.now.texts number) known.new.texts) }
 {
-    match known.intern(name) {
-        Ok(n) => Ok(n),
-        Err(_) => Err(AllocError),
-    }
-}
-
-/// Adds a term, if it is not known.
-pub(crate) fn add_name(alloc: Global, known: &mut Dict, name: &Term) -> Result<(), AllocError>
-    ensures names { OnOk result (known.new ≡ insert_key term_eq known.old name.now) }
-{
-    match known.number_of(name) {
-        Some(_) => Ok(()),
-        None => {
-            number_name(known, name.copy(alloc)?)?;
-            Ok(())
-        }
-    }
+    known.intern(text_of(texts, number))?;
+    Ok(())
 }
 
 /// Adds the graph name of a quad, if it has one.
-fn add_name_of(
-    alloc: Global,
-    known: &mut Dict,
-    terms: &Dict,
-    quad: &NumQuad,
-) -> Result<(), AllocError>
-    requires below { IsBelow (length terms.now) quad.now }
-    ensures names { OnOk result (known.new
-        ≡ insert_all term_eq known.old (option_to_list (quad_at terms.now quad.now).g)) }
+fn add_name_of(known: &mut TextDict, texts: &TextDict, quad: &NumQuad) -> Result<(), AllocError>
+    requires below { IsBelow (length texts.now.texts) quad.now }
+    ensures names { OnOk result ((earlier terms : List Term) → AreFormsOf earlier known.old.texts → AreFormsOf terms texts.now.texts
+        → AreFormsOf (insert_all term_eq earlier (option_to_list (quad_at terms quad.now).g)) known.new.texts) }
 {
     match quad.g {
-        Some(g) => add_name(alloc, known, terms.term(g)),
+        Some(number) => {
+            add_name(known, texts, number)?;
+            Ok(())
+        }
         None => Ok(()),
     }
 }
 
 /// Adds the graph names of quads.
-fn add_names(
-    alloc: Global,
-    known: &mut Dict,
-    terms: &Dict,
-    quads: &[NumQuad],
-) -> Result<(), AllocError>
-    requires below { AreBelow (length terms.now) quads.now }
-    requires none { known.old ≡ [] }
-    ensures names { OnOk result (known.new ≡ names (quads_at terms.now quads.now)) }
+fn add_names(known: &mut TextDict, texts: &TextDict, quads: &[NumQuad]) -> Result<(), AllocError>
+    requires below { AreBelow (length texts.now.texts) quads.now }
+    requires none { known.old.texts ≡ [] }
+    ensures names { OnOk result ((all : List QuadParts) → AreNumberedBy all texts.now.texts quads.now
+        → AreFormsOf (names all) known.new.texts) }
 {
     for quad in quads {
-        add_name_of(alloc, known, terms, quad)?;
+        add_name_of(known, texts, quad)?;
     }
     Ok(())
 }
 
-/// Returns the graph names of a block, each once, by first appearance.
+/// Returns the N-Quads forms of the graph names of a block, each once, by first appearance.
 pub(crate) fn names_of(
     alloc: Global,
     state: RandomState,
-    piece: &LocalPiece,
-) -> Result<Dict, AllocError>
-    ensures names { IfOk result (λ known. known ≡ names piece.now) }
+    block: &NumberedLines,
+) -> Result<TextDict, AllocError>
+    requires read { (quads : List QuadParts) × AreQuadsOf quads block.now }
+    ensures names { IfOk result (λ found. (quads : List QuadParts) → AreQuadsOf quads block.now
+        → AreFormsOf (names quads) found.texts) }
 {
-    let mut known = Dict::new(alloc, state)?;
-    add_names(alloc, &mut known, piece.dict(), piece.quads())?;
-    Ok(known)
+    let mut found = TextDict::new(alloc, state);
+    add_names(&mut found, &block.texts, block.quads.as_slice())?;
+    Ok(found)
 }

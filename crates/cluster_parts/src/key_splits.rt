@@ -6,16 +6,16 @@ ghost use Rattle.nquads_core.specs.Lines.{lines};
 ghost use Rattle.nquads_core.specs.Pieces.{HaveStatements, IsFirstMalformed};
 ghost use Rattle.nquads_core.specs.declared.fault.PieceFault.TheVariants.{BadLine};
 ghost use Rattle.dict_core.specs.NumQuad.{AreBelow, IsBelow};
-ghost use Rattle.dict_core.specs.Appearances.{first_appearances, terms_of};
-ghost use Rattle.cluster_parts.specs.Hash.{graph_key, subject_key, term_hash};
+ghost use Rattle.cluster_parts.specs.Hash.{graph_key, hash, subject_key};
 ghost use Rattle.cluster_parts.specs.Keys.{key_of};
+ghost use Rattle.cluster_parts.specs.Numbered.{AreQuadsOf};
 ghost use Rattle.cluster_parts.specs.Output.{keyed_parts};
 
-use crate::hashing::hashes_of;
+use crate::hashing::text_hashes;
 use crate::keyed::{push_keyed_parts, unkeyed_part};
-use crate::numbering::number_lines;
+use crate::numbering::{NumberedLines, number_lines};
 use crate::sealing::{push_sealed, push_sealed_number};
-use dict_core::{LocalPiece, NumQuad};
+use dict_core::NumQuad;
 use nquads_core::PieceFault;
 use std::alloc::{AllocError, Global};
 use std::hash::RandomState;
@@ -77,12 +77,14 @@ fn subject_keys(
 fn keys_by_graph(
     alloc: Global,
     hashes: &[u64],
-    piece: &LocalPiece,
+    block: &NumberedLines,
 ) -> Result<Vec<Option<u64>>, AllocError>
-    requires hashed { hashes.now ≡ map term_hash (first_appearances (terms_of piece.now)) }
-    ensures keys { IfOk result (λ keys. keys.items ≡ map graph_key piece.now) }
+    requires read { (quads : List QuadParts) × AreQuadsOf quads block.now }
+    requires hashed { hashes.now ≡ map hash block.now.texts.texts }
+    ensures keys { IfOk result (λ keys. (quads : List QuadParts) → AreQuadsOf quads block.now
+        → keys.items ≡ map graph_key quads) }
 {
-    let keys = graph_keys(alloc, hashes, piece.quads())?;
+    let keys = graph_keys(alloc, hashes, block.quads.as_slice())?;
     Ok(keys)
 }
 
@@ -90,44 +92,52 @@ fn keys_by_graph(
 fn keys_by_subject(
     alloc: Global,
     hashes: &[u64],
-    piece: &LocalPiece,
+    block: &NumberedLines,
 ) -> Result<Vec<Option<u64>>, AllocError>
-    requires hashed { hashes.now ≡ map term_hash (first_appearances (terms_of piece.now)) }
-    ensures keys { IfOk result (λ keys. keys.items ≡ map subject_key piece.now) }
+    requires read { (quads : List QuadParts) × AreQuadsOf quads block.now }
+    requires hashed { hashes.now ≡ map hash block.now.texts.texts }
+    ensures keys { IfOk result (λ keys. (quads : List QuadParts) → AreQuadsOf quads block.now
+        → keys.items ≡ map subject_key quads) }
 {
-    let keys = subject_keys(alloc, hashes, piece.quads())?;
+    let keys = subject_keys(alloc, hashes, block.quads.as_slice())?;
     Ok(keys)
 }
 
 /// Returns the keys of the quads of a block.
-fn keys_of(alloc: Global, piece: &LocalPiece, key: &QuadKey) -> Result<Vec<Option<u64>>, AllocError>
-    ensures keys { IfOk result (λ keys. keys.items ≡ map (key_of key.now) piece.now) }
+fn keys_of(
+    alloc: Global,
+    block: &NumberedLines,
+    key: &QuadKey,
+) -> Result<Vec<Option<u64>>, AllocError>
+    requires read { (quads : List QuadParts) × AreQuadsOf quads block.now }
+    ensures keys { IfOk result (λ keys. (quads : List QuadParts) → AreQuadsOf quads block.now
+        → keys.items ≡ map (key_of key.now) quads) }
 {
-    let hashes = hashes_of(alloc, piece.dict())?;
+    let hashes = text_hashes(alloc, &block.texts)?;
     match key {
-        QuadKey::Subject => keys_by_subject(alloc, hashes.as_slice(), piece),
-        QuadKey::Graph => keys_by_graph(alloc, hashes.as_slice(), piece),
+        QuadKey::Subject => keys_by_subject(alloc, hashes.as_slice(), block),
+        QuadKey::Graph => keys_by_graph(alloc, hashes.as_slice(), block),
     }
 }
 
 /// Returns the parts of a block that has been read.
 fn parts_by_key(
     alloc: Global,
-    piece: &LocalPiece,
+    block: &NumberedLines,
     key: &QuadKey,
-    count: u64,
     partitions: u64,
 ) -> Result<Vec<u8>, AllocError>
+    requires read { (quads : List QuadParts) × AreQuadsOf quads block.now }
     requires some { 0 < partitions }
-    ensures parts { IfOk result
-        (λ out. out.items ≡ keyed_parts (key_of key.now) partitions count piece.now) }
+    ensures parts { IfOk result (λ out. (quads : List QuadParts) → AreQuadsOf quads block.now
+        → out.items ≡ keyed_parts (key_of key.now) partitions block.now.lines quads) }
 {
-    let keys = keys_of(alloc, piece, key)?;
-    let unkeyed = unkeyed_part(alloc, piece, keys.as_slice())?;
+    let keys = keys_of(alloc, block, key)?;
+    let unkeyed = unkeyed_part(alloc, block, keys.as_slice())?;
     let mut out = Vec::new(alloc);
-    push_sealed_number(alloc, &mut out, count)?;
+    push_sealed_number(alloc, &mut out, block.lines)?;
     push_sealed(&mut out, unkeyed.as_slice())?;
-    push_keyed_parts(alloc, &mut out, piece, keys.as_slice(), partitions)?;
+    push_keyed_parts(alloc, &mut out, block, keys.as_slice(), partitions)?;
     Ok(out)
 }
 
@@ -156,7 +166,7 @@ pub fn split_quads(
         (λ fault. (k : ℕ) → fault ≡ BadLine k → IsFirstMalformed (lines block.now) k) }
 {
     let numbered = number_lines(alloc, state, block)?;
-    match parts_by_key(alloc, &numbered.piece, key, numbered.lines, partitions) {
+    match parts_by_key(alloc, &numbered, key, partitions) {
         Ok(out) => Ok(out),
         Err(_) => Err(PieceFault::Memory),
     }

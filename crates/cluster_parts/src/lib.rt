@@ -2,14 +2,16 @@
 //!
 //! A block is a run of whole lines of a document. [`split_for_check`] reads one block. It spreads the terms, the
 //! graph names and the hashes of the quads over partitions. Equal terms, and equal quads, are in the same partition.
-//! So what is counted in one partition needs nothing from another.
+//! So what is counted in one partition needs nothing from another: [`count_lines`] counts terms and names, and
+//! [`repeated_hashes`] finds the hashes of each block that occur again. [`split_again`] reads the quads that have these
+//! from the blocks again, and [`count_lines`] counts them.
 //!
 //! [`split_for_terms`] spreads the terms of a block alone. [`first_terms`] finds those that are new in each block of a
 //! partition, and [`keep_terms`] lists the new terms of a block. [`split_quads`] spreads the quads of a block by subject
 //! or by graph name. The laws are in [`laws`].
 //!
-//! Texts that one program writes for another are sealed ([`push_sealed`], [`join_sealed`]): a head with the version
-//! of the program, a length and a checksum precede each.
+//! Texts that one program writes for another are sealed ([`join_sealed`]): a head with the version of the program, a
+//! length and a checksum precede each.
 #![tactic(auto)]
 
 mod again;
@@ -19,23 +21,24 @@ mod hashing;
 mod keeping;
 mod key_splits;
 mod keyed;
+mod known_lines;
 pub mod laws;
 mod new_terms;
 mod numbering;
 mod quad_hashes;
+mod repeated;
 mod sealing;
 mod splitting;
+mod term_lists;
 mod term_parts;
 
 pub use again::split_again;
-pub use counting::{count_single, count_statements, repeated_hashes};
+pub use counting::count_lines;
 pub use hashing::hash_of;
 pub use keeping::keep_terms;
 pub use key_splits::{QuadKey, split_quads};
 pub use new_terms::first_terms;
-pub use sealing::{
-    SealFault, first_sealed, join_sealed, numbers_of, push_number, push_sealed, push_sealed_list,
-    push_sealed_number,
-};
+pub use repeated::repeated_hashes;
+pub use sealing::{SealFault, first_lists, join_sealed};
 pub use splitting::split_for_check;
 pub use term_parts::split_for_terms;

@@ -1,32 +1,18 @@
 //! Which lines of the lists of a partition are new.
-ghost use Rattle.std.specs.Prelude.{◌≡◌, ◌∷◌, ◌++◌, ◌||◌, [], List, ℕ, not, map, IfOk, OnOk};
-ghost use Rattle.std.specs.Str.{bytes_eq};
+ghost use Rattle.std.specs.Prelude.{◌≡◌, ◌++◌, List, ℕ, IfOk, OnOk};
 ghost use Rattle.nquads_core.specs.Lines.{lines};
 ghost use Rattle.cluster_parts.specs.Seal.{all_sealed};
-ghost use Rattle.cluster_parts.specs.Terms.{has_line, mark, marks};
-ghost use Rattle.cluster_parts.specs.Known.{AreKnown, known_lines};
+ghost use Rattle.cluster_parts.specs.Terms.{mark, marks};
+ghost use Rattle.cluster_parts.specs.Known.{AreKnown};
 ghost use Rattle.cluster_parts.specs.Output.{AreFirst};
 
+use crate::known_lines::add_line;
 use crate::sealing::{SealFault, first_sealed, push_sealed};
 use indexmap::IndexSet;
+use keyed_hash::HashState;
 use nquads_core::first_line;
 use std::alloc::{AllocError, Global};
 use std::hash::RandomState;
-
-/// Adds a line to those that are known, and returns whether it is new.
-fn add_line<'a>(
-    known: &mut IndexSet<&'a [u8], RandomState>,
-    line: &'a [u8],
-) -> Result<bool, AllocError>
-    ensures new { IfOk result (λ is_new. is_new ≡ not (has_line (known_lines known.old) line.now)) }
-    ensures known { OnOk result ((l : List ℕ)
-        → has_line (known_lines known.new) l ≡ (has_line (known_lines known.old) l || bytes_eq l line.now)) }
-{
-    match known.insert(line) {
-        Ok(is_new) => Ok(is_new),
-        Err(_) => Err(AllocError),
-    }
-}
 
 /// Returns the mark of a line: 1 if it is new, and 0 otherwise.
 fn mark_of(is_new: bool) -> u8
@@ -38,7 +24,7 @@ fn mark_of(is_new: bool) -> u8
 /// Adds the lines of a list to those that are known, and returns the mark of each.
 fn marks_of<'a>(
     alloc: Global,
-    known: &mut IndexSet<&'a [u8], RandomState>,
+    known: &mut IndexSet<&'a [u8], HashState>,
     list: &'a [u8],
 ) -> Result<Vec<u8>, AllocError>
     ensures marks { IfOk result (λ made. (earlier : List (List ℕ)) → AreKnown earlier known.old
@@ -68,7 +54,7 @@ pub fn first_terms(alloc: Global, state: RandomState, bytes: &[u8]) -> Result<Ve
     ensures firsts { IfOk result (λ out. (texts : List (List ℕ)) × (firsts : List (List ℕ))
         × (bytes.now ≡ all_sealed texts) × AreFirst texts firsts × (out.items ≡ all_sealed firsts)) }
 {
-    let mut known = IndexSet::with_hasher(alloc, state);
+    let mut known = IndexSet::with_hasher(alloc, HashState::new(state));
     let mut out = Vec::new(alloc);
     let mut rest = bytes;
     while !rest.is_empty() {

@@ -1,13 +1,13 @@
 //! The hashes of the quads of a block, from those of its terms.
-ghost use Rattle.std.specs.Prelude.{◌≡◌, length, map, IfOk};
-ghost use Rattle.rdf_core.specs.declared.term.Term.{Term};
-ghost use Rattle.dict_core.specs.Appearances.{first_appearances, terms_of};
+ghost use Rattle.std.specs.Prelude.{◌≡◌, List, length, map, IfOk};
+ghost use Rattle.rdf_core.specs.QuadParts.{QuadParts};
 ghost use Rattle.dict_core.specs.NumQuad.{AreBelow, IsBelow};
-ghost use Rattle.cluster_parts.specs.Hash.{quad_hash, term_hash};
-ghost use Rattle.cluster_parts.specs.NumberedHash.{hash_by_numbers};
+ghost use Rattle.cluster_parts.specs.Hash.{hash, quad_hash};
+ghost use Rattle.cluster_parts.specs.Numbered.{AreQuadsOf, hash_by_numbers};
 
 use crate::hashing::hash_of_four;
-use dict_core::{LocalPiece, NumQuad};
+use crate::numbering::NumberedLines;
+use dict_core::NumQuad;
 use std::alloc::{AllocError, Global};
 
 /// Returns the hash of a quad of numbers.
@@ -44,11 +44,13 @@ fn hashes_of_quads(alloc: Global, terms: &[u64], quads: &[NumQuad]) -> Result<Ve
 pub(crate) fn quad_hashes_of(
     alloc: Global,
     terms: &[u64],
-    piece: &LocalPiece,
+    block: &NumberedLines,
 ) -> Result<Vec<u64>, AllocError>
-    requires hashed { terms.now ≡ map term_hash (first_appearances (terms_of piece.now)) }
-    ensures hashes { IfOk result (λ hashes. hashes.items ≡ map quad_hash piece.now) }
+    requires read { (quads : List QuadParts) × AreQuadsOf quads block.now }
+    requires hashed { terms.now ≡ map hash block.now.texts.texts }
+    ensures hashes { IfOk result (λ hashes. (quads : List QuadParts) → AreQuadsOf quads block.now
+        → hashes.items ≡ map quad_hash quads) }
 {
-    let hashes = hashes_of_quads(alloc, terms, piece.quads())?;
+    let hashes = hashes_of_quads(alloc, terms, block.quads.as_slice())?;
     Ok(hashes)
 }

@@ -1,8 +1,9 @@
 //! Texts with a head, a length and a checksum.
-ghost use Rattle.std.specs.Prelude.{◌≡◌, ◌∷◌, ◌++◌, [], List, ℕ, length, IfOk, IfSome, OnOk};
+ghost use Rattle.std.specs.Prelude.{◌≡◌, ◌∷◌, ◌++◌, [], List, ℕ, length, map, IfOk, IfSome, OnOk};
 ghost use Rattle.cluster_parts.specs.Hash.{hash, number_bytes};
 ghost use Rattle.cluster_parts.specs.Seal.{all_sealed, joined_texts, seal_head, sealed};
 ghost use Rattle.cluster_parts.specs.Parts.{number_list};
+ghost use Rattle.cluster_parts.specs.Repeated.{numbers_of};
 ghost use Rattle.cluster_parts.specs.Known.{texts_of};
 
 use crate::hashing::hash_of;
@@ -35,7 +36,7 @@ impl From<AllocError> for SealFault {
 
 /// Appends a number as eight bytes, the lowest first.
 #[tactic(auto, unfolding(crate::specs::Hash::number_bytes))]
-pub fn push_number(out: &mut Vec<u8>, n: u64) -> Result<(), AllocError>
+pub(crate) fn push_number(out: &mut Vec<u8>, n: u64) -> Result<(), AllocError>
     ensures appended { OnOk result (out.new.items ≡ out.old.items ++ number_bytes n) }
 {
     out.extend_from_slice(&n.to_le_bytes())
@@ -45,7 +46,7 @@ pub fn push_number(out: &mut Vec<u8>, n: u64) -> Result<(), AllocError>
 ///
 /// # Errors
 /// `AllocError` if an allocation fails. A part of the sealed text may have been appended.
-pub fn push_sealed_number(alloc: Global, out: &mut Vec<u8>, n: u64) -> Result<(), AllocError>
+pub(crate) fn push_sealed_number(alloc: Global, out: &mut Vec<u8>, n: u64) -> Result<(), AllocError>
     ensures appended { OnOk result (out.new.items ≡ out.old.items ++ sealed (number_bytes n)) }
 {
     let mut text = Vec::new(alloc);
@@ -53,25 +54,11 @@ pub fn push_sealed_number(alloc: Global, out: &mut Vec<u8>, n: u64) -> Result<()
     push_sealed(out, text.as_slice())
 }
 
-/// Appends numbers as a sealed text.
-///
-/// # Errors
-/// `AllocError` if an allocation fails. A part of the sealed text may have been appended.
-pub fn push_sealed_list(alloc: Global, out: &mut Vec<u8>, numbers: &[u64]) -> Result<(), AllocError>
-    ensures appended { OnOk result (out.new.items ≡ out.old.items ++ sealed (number_list numbers.now)) }
-{
-    let mut text = Vec::new(alloc);
-    for number in numbers {
-        push_number(&mut text, *number)?;
-    }
-    push_sealed(out, text.as_slice())
-}
-
 /// Appends a text, sealed.
 ///
 /// # Errors
 /// `AllocError` if an allocation fails. A part of the sealed text may have been appended.
-pub fn push_sealed(out: &mut Vec<u8>, text: &[u8]) -> Result<(), AllocError>
+pub(crate) fn push_sealed(out: &mut Vec<u8>, text: &[u8]) -> Result<(), AllocError>
     ensures appended { OnOk result (out.new.items ≡ out.old.items ++ sealed text.now) }
 {
     out.extend_from_slice(HEAD)?;
@@ -139,7 +126,7 @@ fn checked_text(bytes: &[u8], len: u64, checksum: u64) -> Result<(&[u8], &[u8]),
 }
 
 /// Splits off the first sealed text.
-pub fn first_sealed(bytes: &[u8]) -> Result<(&[u8], &[u8]), SealFault>
+pub(crate) fn first_sealed(bytes: &[u8]) -> Result<(&[u8], &[u8]), SealFault>
     ensures parts { IfOk result (λ r. bytes.now ≡ sealed r.0.now ++ r.1.now) }
 {
     let first = skip_head(bytes)?;
@@ -196,28 +183,61 @@ fn push_text<'a>(texts: &mut Vec<&'a [u8]>, text: &'a [u8]) -> Result<(), AllocE
     }
 }
 
-/// Reads numbers of eight bytes.
-///
-/// # Errors
-/// - `Damaged` if the number of bytes is not a multiple of eight.
-/// - `Memory` if an allocation fails.
-pub fn numbers_of(alloc: Global, bytes: &[u8]) -> Result<Vec<u64>, SealFault>
-    ensures numbers { IfOk result (λ numbers. bytes.now ≡ number_list numbers.items) }
-{
-    let mut numbers = Vec::new(alloc);
-    let mut rest = bytes;
-    while !rest.is_empty() {
-        let (number, after) = take_number(rest)?;
-        push_one(&mut numbers, number)?;
-        rest = after;
-    }
-    Ok(numbers)
-}
-
 /// Appends a number.
 fn push_one(numbers: &mut Vec<u64>, number: u64) -> Result<(), AllocError>
     ensures pushed { OnOk result (numbers.new.items ≡ numbers.old.items ++ number ∷ []) }
 {
     numbers.push(number)?;
     Ok(())
+}
+
+/// Reads numbers of eight bytes, and appends them.
+fn push_numbers(numbers: &mut Vec<u64>, bytes: &[u8]) -> Result<(), SealFault>
+    ensures appended { OnOk result ((more : List ℕ) × (bytes.now ≡ number_list more)
+        × (numbers.new.items ≡ numbers.old.items ++ more)) }
+{
+    let mut rest = bytes;
+    while !rest.is_empty() {
+        let (number, after) = take_number(rest)?;
+        push_one(numbers, number)?;
+        rest = after;
+    }
+    Ok(())
+}
+
+/// Reads numbers of eight bytes.
+///
+/// # Errors
+/// - `Damaged` if the number of bytes is not a multiple of eight.
+/// - `Memory` if an allocation fails.
+pub(crate) fn numbers_of(alloc: Global, bytes: &[u8]) -> Result<Vec<u64>, SealFault>
+    ensures numbers { IfOk result (λ numbers. bytes.now ≡ number_list numbers.items) }
+{
+    let mut numbers = Vec::new(alloc);
+    push_numbers(&mut numbers, bytes)?;
+    Ok(numbers)
+}
+
+/// Splits off the first sealed lists of numbers, of which there are `count`. Returns all their numbers, and what follows.
+///
+/// # Errors
+/// - `Version` if a text begins with another head.
+/// - `Damaged` if a text is shorter than its length says, or has another checksum, or is not a list of numbers.
+/// - `Memory` if an allocation fails.
+pub fn first_lists<'a>(
+    alloc: Global,
+    bytes: &'a [u8],
+    count: u64,
+) -> Result<(Vec<u64>, &'a [u8]), SealFault>
+    ensures lists { IfOk result (λ r. (lists : List (List ℕ)) × (length lists ≡ count) × (r.0.items ≡ numbers_of lists)
+        × (bytes.now ≡ all_sealed (map number_list lists) ++ r.1.now)) }
+{
+    let mut numbers = Vec::new(alloc);
+    let mut rest = bytes;
+    for _list in 0..count {
+        let (text, after) = first_sealed(rest)?;
+        push_numbers(&mut numbers, text)?;
+        rest = after;
+    }
+    Ok((numbers, rest))
 }

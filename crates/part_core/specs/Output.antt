@@ -1,14 +1,14 @@
 -- What each command writes for its input (choices of this project).
-use Rattle.std.specs.Prelude.{◌≡◌, ℕ, ◌<◌, Bool, true, false, List, ◌++◌, length, Option, Some, None, decimal, codes, ⊤}
+use Rattle.std.specs.Prelude.{◌≡◌, ℕ, ◌<◌, Bool, true, false, List, ◌++◌, length, map, Option, Some, None, decimal, codes, ⊤}
 use Rattle.rdf_core.specs.QuadParts.{QuadParts}
 use Rattle.nquads_core.specs.Lines.{lines}
 use Rattle.nquads_core.specs.Pieces.{HaveStatements, IsFirstMalformed}
 use Rattle.cluster_parts.specs.Hash.{number_bytes}
 use Rattle.cluster_parts.specs.Seal.{all_sealed, joined_texts, sealed}
 use Rattle.cluster_parts.specs.Parts.{number_list}
-use Rattle.cluster_parts.specs.Repeated.{single}
+use Rattle.cluster_parts.specs.Repeated.{numbers_of, repeated_in, single}
 use Rattle.dict_core.specs.Appearances.{terms_of, first_appearances}
-use Rattle.cluster_parts.specs.Output.{AreFirst, AreRepeated, IsCountOf, IsKept, again_parts, check_parts, keyed_parts, terms_parts}
+use Rattle.cluster_parts.specs.Output.{AreFirst, IsKept, again_parts, check_parts, distinct_lines, keyed_parts, terms_parts}
 use Rattle.cluster_parts.specs.Keys.{key_of}
 use Rattle.cluster_parts.specs.declared.key_splits.QuadKey.{QuadKey}
 use Rattle.query_split.specs.declared.split.Split.{Split}
@@ -16,7 +16,7 @@ use Rattle.query_plan.specs.Planned.{IsPlan}
 use Rattle.query_plan.specs.declared.planning.PartsPlan.{PartsPlan}
 use Rattle.result_merge.specs.Merging.{IsMerged}
 use Rattle.part_core.specs.declared.command.Command.{Command}
-use Rattle.part_core.specs.declared.command.Command.TheVariants.{SplitCheck, Count, Repeated, Join, Again, SplitTerms, First, Keep, SplitQuads, Unseal, Plan, Merge}
+use Rattle.part_core.specs.declared.command.Command.TheVariants.{SplitCheck, Count, Repeated, Again, SplitTerms, First, Keep, SplitQuads, Unseal, Plan, Merge}
 
 -- `split check`: the parts of a block
 pub record IsSplit (partitions : ℕ) (input output : List ℕ) : Type 0 where
@@ -24,38 +24,27 @@ pub record IsSplit (partitions : ℕ) (input output : List ℕ) : Type 0 where
   pub statements : HaveStatements (lines input) quads
   pub parts : output ≡ check_parts partitions (length (lines input)) quads
 
--- `count`: the number of distinct quads of sealed documents that are joined, as a line
+-- `count`: the number of distinct lines of sealed texts, as a line
 pub record IsCounted (input output : List ℕ) : Type 0 where
   pub texts : List (List ℕ)
-  pub count : ℕ
   pub unsealed : input ≡ all_sealed texts
-  pub counted : IsCountOf (joined_texts texts) count
-  pub line : output ≡ decimal count ++ codes "\n"
+  pub line : output ≡ decimal (distinct_lines texts) ++ codes "\n"
 
--- `repeated`: of sealed lists of hashes that are joined, how many hashes occur once, and the others
+-- `repeated`: of sealed lists of hashes how many hashes occur once, and then those of each list that occur again
 pub record IsRepeatedIn (input output : List ℕ) : Type 0 where
-  pub texts : List (List ℕ)
-  pub hashes : List ℕ
-  pub repeated : List ℕ
-  pub unsealed : input ≡ all_sealed texts
-  pub numbers : joined_texts texts ≡ number_list hashes
-  pub found : AreRepeated hashes repeated
-  pub numbers_sealed : output ≡ sealed (number_bytes (length (single hashes))) ++ sealed (number_list repeated)
+  pub lists : List (List ℕ)
+  pub unsealed : input ≡ all_sealed (map number_list lists)
+  pub numbers_sealed : output ≡ sealed (number_bytes (length (single (numbers_of lists)))) ++ all_sealed (map number_list (repeated_in lists))
 
--- `join`: the sealed texts as one
-pub record IsJoined (input output : List ℕ) : Type 0 where
-  pub texts : List (List ℕ)
-  pub unsealed : input ≡ all_sealed texts
-  pub joined : output ≡ sealed (joined_texts texts)
-
--- `again`: after a sealed list of hashes a block; its quads that have one of the hashes
+-- `again`: after a sealed list of hashes from each partition a block; its quads that have one of the hashes
 pub record IsAgain (partitions : ℕ) (input output : List ℕ) : Type 0 where
-  pub hashes : List ℕ
+  pub lists : List (List ℕ)
   pub block : List ℕ
   pub quads : List QuadParts
-  pub unsealed : input ≡ sealed (number_list hashes) ++ block
+  pub one_each : length lists ≡ partitions
+  pub unsealed : input ≡ all_sealed (map number_list lists) ++ block
   pub statements : HaveStatements (lines block) quads
-  pub parts : output ≡ again_parts hashes partitions quads
+  pub parts : output ≡ again_parts (numbers_of lists) partitions quads
 
 -- `unseal`: the sealed texts as one, not sealed
 pub record IsUnsealed (input output : List ℕ) : Type 0 where
@@ -114,7 +103,6 @@ abbrev pub IsOutput : Command → List ℕ → List ℕ → Type 0
 IsOutput (SplitCheck partitions) input output = IsSplit partitions input output
 IsOutput Count input output = IsCounted input output
 IsOutput Repeated input output = IsRepeatedIn input output
-IsOutput Join input output = IsJoined input output
 IsOutput (Again partitions) input output = IsAgain partitions input output
 IsOutput (SplitTerms partitions) input output = IsTermSplit partitions input output
 IsOutput First input output = IsFirstOf input output
@@ -124,26 +112,20 @@ IsOutput Unseal input output = IsUnsealed input output
 IsOutput (Plan split) input output = IsPlanned split input output
 IsOutput (Merge m) input output = IsMerged m.distinct m.offset m.limit input output
 
--- the documents that are joined have a first malformed line
-pub record IsBadDocument (input : List ℕ) (k : ℕ) : Type 0 where
-  pub texts : List (List ℕ)
-  pub unsealed : input ≡ all_sealed texts
-  pub malformed : IsFirstMalformed (lines (joined_texts texts)) k
-
--- so has the block after the hashes
-pub record IsBadBlock (input : List ℕ) (k : ℕ) : Type 0 where
-  pub hashes : List ℕ
+-- the block after the hashes has a first malformed line
+pub record IsBadBlock (partitions : ℕ) (input : List ℕ) (k : ℕ) : Type 0 where
+  pub lists : List (List ℕ)
   pub block : List ℕ
-  pub unsealed : input ≡ sealed (number_list hashes) ++ block
+  pub one_each : length lists ≡ partitions
+  pub unsealed : input ≡ all_sealed (map number_list lists) ++ block
   pub malformed : IsFirstMalformed (lines block) k
 
 -- line k of what a command reads, counted from 0, is the first malformed line
 abbrev pub IsBadInput : Command → List ℕ → ℕ → Type 0
 IsBadInput (SplitCheck partitions) input k = IsFirstMalformed (lines input) k
-IsBadInput Count input k = IsBadDocument input k
+IsBadInput Count input k = ⊥
 IsBadInput Repeated input k = ⊥
-IsBadInput Join input k = ⊥
-IsBadInput (Again partitions) input k = IsBadBlock input k
+IsBadInput (Again partitions) input k = IsBadBlock partitions input k
 IsBadInput (SplitTerms partitions) input k = IsFirstMalformed (lines input) k
 IsBadInput First input k = ⊥
 IsBadInput Keep input k = ⊥
@@ -157,7 +139,6 @@ abbrev pub HasPartitions : Command → Type 0
 HasPartitions (SplitCheck partitions) = 0 < partitions
 HasPartitions Count = ⊤
 HasPartitions Repeated = ⊤
-HasPartitions Join = ⊤
 HasPartitions (Again partitions) = 0 < partitions
 HasPartitions (SplitTerms partitions) = 0 < partitions
 HasPartitions First = ⊤

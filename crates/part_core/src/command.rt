@@ -25,13 +25,11 @@ pub struct Merging {
 pub enum Command {
     /// `split check P`: splits what `spq check` counts of a block into P partitions.
     SplitCheck(u64),
-    /// `count`: counts the distinct quads of sealed documents.
+    /// `count`: counts the distinct lines of sealed texts.
     Count,
-    /// `repeated`: finds the hashes that occur more than once in sealed lists of hashes.
+    /// `repeated`: finds the hashes of each sealed list that occur again, in it or in another one.
     Repeated,
-    /// `join`: joins sealed texts into one sealed text.
-    Join,
-    /// `again P`: splits the quads of a block that have one of the given hashes into P partitions.
+    /// `again P`: splits the quads of a block that have a hash of one of P sealed lists into P partitions.
     Again(u64),
     /// `split terms P`: splits the terms of a block into P partitions.
     SplitTerms(u64),
@@ -75,7 +73,6 @@ fn command_of(word: &str) -> Result<Command, PartFault>
     match word {
         "count" => Ok(Command::Count),
         "repeated" => Ok(Command::Repeated),
-        "join" => Ok(Command::Join),
         "first" => Ok(Command::First),
         "keep" => Ok(Command::Keep),
         "unseal" => Ok(Command::Unseal),

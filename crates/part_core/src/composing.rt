@@ -1,23 +1,21 @@
 //! The output of a command for its input.
-ghost use Rattle.std.specs.Prelude.{◌≡◌, ◌<◌, ◌++◌, ℕ, List, codes, decimal, length, IfErr, IfOk, OnOk};
+ghost use Rattle.std.specs.Prelude.{◌≡◌, ◌<◌, ◌++◌, ℕ, List, codes, decimal, length, map, IfErr, IfOk, OnOk};
 ghost use Rattle.nquads_core.specs.Lines.{lines};
 ghost use Rattle.nquads_core.specs.Pieces.{HaveStatements, IsFirstMalformed};
 ghost use Rattle.rdf_core.specs.QuadParts.{QuadParts};
-ghost use Rattle.cluster_parts.specs.Hash.{number_bytes};
-ghost use Rattle.cluster_parts.specs.Seal.{all_sealed, joined_texts, sealed};
+ghost use Rattle.cluster_parts.specs.Seal.{all_sealed, joined_texts};
 ghost use Rattle.cluster_parts.specs.Parts.{number_list};
-ghost use Rattle.cluster_parts.specs.Output.{AreRepeated, IsCountOf, again_parts};
-ghost use Rattle.cluster_parts.specs.Repeated.{single};
-ghost use Rattle.part_core.specs.Output.{HasPartitions, IsAgain, IsBadBlock, IsBadDocument, IsBadInput, IsCounted, IsFirstOf, IsJoined, IsKeptOf, IsOutput, IsRepeatedIn, IsPlanned, IsQuadSplit, IsSplit, IsTermSplit, IsUnsealed, limit_word, merge_line};
+ghost use Rattle.cluster_parts.specs.Output.{again_parts};
+ghost use Rattle.cluster_parts.specs.Repeated.{numbers_of};
+ghost use Rattle.part_core.specs.Output.{HasPartitions, IsAgain, IsBadBlock, IsBadInput, IsCounted, IsFirstOf, IsKeptOf, IsOutput, IsRepeatedIn, IsPlanned, IsQuadSplit, IsSplit, IsTermSplit, IsUnsealed, limit_word, merge_line};
 ghost use Rattle.result_merge.specs.Merging.{IsMerged};
 ghost use Rattle.part_core.specs.declared.fault.PartFault.TheVariants.{BadLine};
 
 use crate::command::{Command, Merging};
 use crate::fault::PartFault;
 use cluster_parts::{
-    QuadKey, count_single, count_statements, first_sealed, first_terms, join_sealed, keep_terms,
-    numbers_of, push_sealed, push_sealed_list, push_sealed_number, repeated_hashes, split_again,
-    split_for_check, split_for_terms, split_quads,
+    QuadKey, count_lines, first_lists, first_terms, join_sealed, keep_terms, repeated_hashes,
+    split_again, split_for_check, split_for_terms, split_quads,
 };
 use itoa::Buffer;
 use query_plan::{PartsPlan, plan};
@@ -35,40 +33,6 @@ fn unsealed(alloc: Global, input: &[u8]) -> Result<Vec<u8>, PartFault>
     match join_sealed(alloc, input) {
         Ok(joined) => Ok(joined),
         Err(fault) => Err(PartFault::of_seal(fault)),
-    }
-}
-
-/// Reads numbers of eight bytes.
-fn numbers(alloc: Global, bytes: &[u8]) -> Result<Vec<u64>, PartFault>
-    ensures numbers { IfOk result (λ numbers. bytes.now ≡ number_list numbers.items) }
-    ensures no_line { IfErr result (λ fault. (k : ℕ) → fault ≡ BadLine k → ⊥) }
-{
-    match numbers_of(alloc, bytes) {
-        Ok(numbers) => Ok(numbers),
-        Err(fault) => Err(PartFault::of_seal(fault)),
-    }
-}
-
-/// Splits off the first sealed text.
-fn first_text(input: &[u8]) -> Result<(&[u8], &[u8]), PartFault>
-    ensures parts { IfOk result (λ r. input.now ≡ sealed r.0.now ++ r.1.now) }
-    ensures no_line { IfErr result (λ fault. (k : ℕ) → fault ≡ BadLine k → ⊥) }
-{
-    match first_sealed(input) {
-        Ok(parts) => Ok(parts),
-        Err(fault) => Err(PartFault::of_seal(fault)),
-    }
-}
-
-/// Counts the distinct quads of a document.
-fn count_of(alloc: Global, state: RandomState, document: &[u8]) -> Result<u64, PartFault>
-    ensures count { IfOk result (IsCountOf document.now) }
-    ensures bad_line { IfErr result
-        (λ fault. (k : ℕ) → fault ≡ BadLine k → IsFirstMalformed (lines document.now) k) }
-{
-    match count_statements(alloc, state, document) {
-        Ok(count) => Ok(count),
-        Err(fault) => Err(PartFault::of_piece(fault)),
     }
 }
 
@@ -96,37 +60,14 @@ fn line_of_number(alloc: Global, n: u64) -> Result<Vec<u8>, PartFault>
 /// Composes the output of `count`.
 fn counted(alloc: Global, state: RandomState, input: &[u8]) -> Result<Vec<u8>, PartFault>
     ensures output { IfOk result (λ output. IsCounted input.now output.items) }
-    ensures bad_line { IfErr result (λ fault. (k : ℕ) → fault ≡ BadLine k → IsBadDocument input.now k) }
+    ensures no_line { IfErr result (λ fault. (k : ℕ) → fault ≡ BadLine k → ⊥) }
 {
-    let document = unsealed(alloc, input)?;
-    let count = match count_of(alloc, state, document.as_slice()) {
+    let count = match count_lines(alloc, state, input) {
         Ok(count) => count,
-        Err(fault) => return Err(fault),
+        Err(fault) => return Err(PartFault::of_seal(fault)),
     };
     let line = line_of_number(alloc, count)?;
     Ok(line)
-}
-
-/// Returns a number and a list of numbers, sealed.
-fn sealed_numbers(alloc: Global, n: u64, numbers: &[u64]) -> Result<Vec<u8>, AllocError>
-    ensures texts { IfOk result
-        (λ out. out.items ≡ sealed (number_bytes n) ++ sealed (number_list numbers.now)) }
-{
-    let mut out = Vec::new(alloc);
-    push_sealed_number(alloc, &mut out, n)?;
-    push_sealed_list(alloc, &mut out, numbers)?;
-    Ok(out)
-}
-
-/// Finds the hashes that occur more than once, and how many occur once.
-fn repeated_of(alloc: Global, state: RandomState, hashes: &[u64]) -> Result<Vec<u8>, AllocError>
-    ensures found { IfOk result (λ out. (repeated : List ℕ) × AreRepeated hashes.now repeated
-        × (out.items ≡ sealed (number_bytes (length (single hashes.now))) ++ sealed (number_list repeated))) }
-{
-    let repeated = repeated_hashes(alloc, state, hashes)?;
-    let count = count_single(alloc, state, hashes, repeated.as_slice())?;
-    let out = sealed_numbers(alloc, count, repeated.as_slice())?;
-    Ok(out)
 }
 
 /// Composes the output of `repeated`.
@@ -134,32 +75,25 @@ fn repeated(alloc: Global, state: RandomState, input: &[u8]) -> Result<Vec<u8>, 
     ensures output { IfOk result (λ output. IsRepeatedIn input.now output.items) }
     ensures no_line { IfErr result (λ fault. (k : ℕ) → fault ≡ BadLine k → ⊥) }
 {
-    let list = unsealed(alloc, input)?;
-    let hashes = numbers(alloc, list.as_slice())?;
-    match repeated_of(alloc, state, hashes.as_slice()) {
+    match repeated_hashes(alloc, state, input) {
         Ok(out) => Ok(out),
-        Err(_) => Err(PartFault::Memory),
+        Err(fault) => Err(PartFault::of_seal(fault)),
     }
 }
 
-/// Returns a text, sealed.
-fn sealed_text(alloc: Global, text: &[u8]) -> Result<Vec<u8>, AllocError>
-    ensures sealed { IfOk result (λ out. out.items ≡ sealed text.now) }
-{
-    let mut out = Vec::new(alloc);
-    push_sealed(&mut out, text)?;
-    Ok(out)
-}
-
-/// Composes the output of `join`.
-fn joined(alloc: Global, input: &[u8]) -> Result<Vec<u8>, PartFault>
-    ensures output { IfOk result (λ output. IsJoined input.now output.items) }
+/// Splits off a sealed list of hashes from each partition.
+fn hashes_and_block(
+    alloc: Global,
+    input: &[u8],
+    partitions: u64,
+) -> Result<(Vec<u64>, &[u8]), PartFault>
+    ensures lists { IfOk result (λ r. (lists : List (List ℕ)) × (length lists ≡ partitions) × (r.0.items ≡ numbers_of lists)
+        × (input.now ≡ all_sealed (map number_list lists) ++ r.1.now)) }
     ensures no_line { IfErr result (λ fault. (k : ℕ) → fault ≡ BadLine k → ⊥) }
 {
-    let text = unsealed(alloc, input)?;
-    match sealed_text(alloc, text.as_slice()) {
-        Ok(out) => Ok(out),
-        Err(_) => Err(PartFault::Memory),
+    match first_lists(alloc, input, partitions) {
+        Ok(parts) => Ok(parts),
+        Err(fault) => Err(PartFault::of_seal(fault)),
     }
 }
 
@@ -192,10 +126,9 @@ fn again(
 ) -> Result<Vec<u8>, PartFault>
     requires some { 0 < partitions }
     ensures output { IfOk result (λ output. IsAgain partitions input.now output.items) }
-    ensures bad_line { IfErr result (λ fault. (k : ℕ) → fault ≡ BadLine k → IsBadBlock input.now k) }
+    ensures bad_line { IfErr result (λ fault. (k : ℕ) → fault ≡ BadLine k → IsBadBlock partitions input.now k) }
 {
-    let (list, block) = first_text(input)?;
-    let hashes = numbers(alloc, list)?;
+    let (hashes, block) = hashes_and_block(alloc, input, partitions)?;
     match split_block_again(alloc, state, hashes.as_slice(), block, partitions) {
         Ok(out) => Ok(out),
         Err(fault) => Err(fault),
@@ -383,7 +316,7 @@ fn merged(alloc: Global, input: &[u8], merging: &Merging) -> Result<Vec<u8>, Par
 /// The command has at least one partition.
 ///
 /// # Errors
-/// - `BadLine(k)` if line k of the block or of the joined documents, counted from 0, is the first that is malformed.
+/// - `BadLine(k)` if line k of the block, counted from 0, is the first that is malformed.
 /// - `Version` if another version of the program wrote the input.
 /// - `Damaged` if the input was damaged, or does not fit together.
 /// - `Query` if a rule rejects the query of `plan`, or it is not UTF-8.
@@ -404,7 +337,6 @@ pub fn compose(
         Command::SplitCheck(partitions) => split(alloc, state, input, *partitions),
         Command::Count => counted(alloc, state, input),
         Command::Repeated => repeated(alloc, state, input),
-        Command::Join => joined(alloc, input),
         Command::Again(partitions) => again(alloc, state, input, *partitions),
         Command::SplitTerms(partitions) => split_terms(alloc, state, input, *partitions),
         Command::SplitQuads(key, partitions) => {

@@ -1,9 +1,16 @@
-use Rattle.std.proofs.Common.{arith}
+use Rattle.std.proofs.Common.{◌++◌, [], None, ap, arith, get_or, if◌then◌else◌, refl, ◌∙◌}
+use Rattle.cluster_parts.specs.Numbered.{line_by_numbers}
 use Rattle.cluster_parts.specs.Parts.{has_key}
-use Rattle.cluster_parts.proofs.PartSteps.{keyed_more}
+use Rattle.cluster_parts.proofs.PartSteps.{numbers_below, one_more_line}
 use Rattle.cluster_parts.proofs.keyed.keyed_part.Goals as goal
 
 pub loop-i-preserved : goal.loop-i-preserved
-loop-i-preserved c = λ key are.
-    keyed_more (has_key c.args.partitions c.args.number) key c.args.dict.now c.args.quads.now c.args.keys.now c.loop-i.i _ c.loop-i.text.items c.push_if_keyed.new.out.items
-    (omega (arith, c.loop-i-test.true)) are (c.loop-i.invariant key are) c.in_ok-push_if_keyed.ensures.appended
+loop-i-preserved c = λ quads key h are.
+    let block = c.args.block.now in
+    let i = c.loop-i.i in
+    let chosen = has_key c.args.partitions c.args.number in
+    one_more_line chosen quads key block.texts.texts block.quads.items c.args.keys.now i c.index.result.now c.loop-i.text.items c.push_if_keyed.new.out.items
+    (omega (arith, c.loop-i-test.true)) h are (numbers_below quads block.texts.texts block.quads.items _ h refl i c.index.result.now (omega (arith, c.loop-i-test.true)))
+    (c.loop-i.invariant quads key h are)
+    (c.in_ok-push_if_keyed.ensures.appended
+    ∙ ap (λ q. c.loop-i.text.items ++ (if chosen (get_or c.args.keys.now i None) then line_by_numbers block.texts.texts q else [])) c.index.ensures)

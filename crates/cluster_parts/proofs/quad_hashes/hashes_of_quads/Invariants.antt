@@ -1,5 +1,5 @@
 use Rattle.std.proofs.Common.{◌≡◌, map, take}
-use Rattle.cluster_parts.specs.NumberedHash.{hash_by_numbers}
+use Rattle.cluster_parts.specs.Numbered.{hash_by_numbers}
 use Rattle.cluster_parts.proofs.quad_hashes.hashes_of_quads.Given as goal
 
 abbrev pub invariant-loop-quad : goal.invariant-loop-quad

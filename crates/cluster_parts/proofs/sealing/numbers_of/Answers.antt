@@ -1,8 +1,8 @@
-use Rattle.cluster_parts.proofs.PartSteps.{number_shorter, one_more_number}
+use Rattle.std.proofs.Common.{◌++◌, ap, sym, ◌∙◌}
+use Rattle.cluster_parts.specs.Parts.{number_list}
 use Rattle.cluster_parts.proofs.sealing.numbers_of.Goals as goal
 
-pub loop-rest-smaller : goal.loop-rest-smaller
-loop-rest-smaller c = number_shorter _ _ _ c.in_ok-number.ensures.parts
-
-pub loop-rest-preserved : goal.loop-rest-preserved
-loop-rest-preserved c = one_more_number _ _ _ _ _ _ c.loop-rest.invariant c.in_ok-number.ensures.parts c.in_ok-push_one.ensures.pushed
+pub returns : goal.returns
+returns c =
+    let read = c.in_ok-push_numbers.ensures.appended in
+    record { numbers = read.1 ∙ ap number_list (sym (read.2 ∙ ap (λ l. l ++ read.0) c.new-numbers.ensures.items)) }

@@ -1,0 +1,9 @@
+use Rattle.std.proofs.Common.{◌≡◌, ◌++◌, ℕ, List, length, map}
+use Rattle.cluster_parts.specs.Parts.{number_list}
+use Rattle.cluster_parts.specs.Repeated.{numbers_of}
+use Rattle.cluster_parts.specs.Seal.{all_sealed}
+use Rattle.cluster_parts.proofs.sealing.first_lists.Given as goal
+
+abbrev pub invariant-loop-list : goal.invariant-loop-list
+invariant-loop-list l =
+    (lists : List (List ℕ)) × (length lists ≡ l._list) × (l.numbers.items ≡ numbers_of lists) × (l.bytes ≡ all_sealed (map number_list lists) ++ l.rest)

@@ -1,0 +1,35 @@
+-- Quads of numbers: the hash of a quad from the hashes of its terms, and its line from their texts. Only private clauses use
+-- these definitions.
+use Rattle.std.specs.Prelude.{ℕ, List, [], ◌∷◌, ◌++◌, Option, Some, None, get_or, codes}
+use Rattle.rdf_core.specs.QuadParts.{QuadParts}
+use Rattle.dict_core.specs.declared.num_quad.NumQuad.{NumQuad}
+use Rattle.text_pieces.specs.Forms.{AreNumberedBy}
+use Rattle.cluster_parts.specs.declared.numbering.NumberedLines.{NumberedLines}
+use Rattle.cluster_parts.specs.Hash.{hash_numbers}
+
+-- the quads of a block, numbered by its texts
+abbrev pub AreQuadsOf : List QuadParts → NumberedLines → Type 0
+AreQuadsOf quads block = AreNumberedBy quads block.texts.texts block.quads.items
+
+abbrev pub name_hash_by_number : List ℕ → Option ℕ → ℕ
+name_hash_by_number hashes None = 0
+name_hash_by_number hashes (Some n) = get_or hashes n 0
+
+abbrev pub hash_by_numbers : List ℕ → NumQuad → ℕ
+hash_by_numbers hashes q =
+    hash_numbers (get_or hashes q.s 0 ∷ get_or hashes q.p 0 ∷ get_or hashes q.o 0 ∷ name_hash_by_number hashes q.g ∷ [])
+
+-- the text with this number
+abbrev pub text_at : List (List ℕ) → ℕ → List ℕ
+text_at texts n = get_or texts n []
+
+-- the graph name, if there is one, and the dot
+abbrev pub end_by_number : List (List ℕ) → Option ℕ → List ℕ
+end_by_number texts None = codes "."
+end_by_number texts (Some n) = text_at texts n ++ codes " ."
+
+-- the line of a quad
+abbrev pub line_by_numbers : List (List ℕ) → NumQuad → List ℕ
+line_by_numbers texts q =
+    (text_at texts q.s ++ (codes " " ++ (text_at texts q.p ++ (codes " " ++ (text_at texts q.o ++ (codes " " ++ end_by_number texts q.g))))))
+    ++ codes "\n"

@@ -1,0 +1,91 @@
+//! Texts, each on a line of its own, by partition.
+ghost use Rattle.std.specs.Prelude.{◌≡◌, ◌<◌, ◌++◌, [], if◌then◌else◌, map, codes, IfOk, OnOk};
+ghost use Rattle.cluster_parts.specs.Hash.{hash};
+ghost use Rattle.cluster_parts.specs.Parts.{is_in};
+ghost use Rattle.cluster_parts.specs.Terms.{line_list, lines_in};
+ghost use Rattle.cluster_parts.specs.Known.{lines_part};
+
+use crate::sealing::push_sealed;
+use std::alloc::{AllocError, Global};
+use text_dict::TextDict;
+
+/// Appends a text on a line of its own.
+pub(crate) fn push_line(out: &mut Vec<u8>, text: &[u8]) -> Result<(), AllocError>
+    ensures appended { OnOk result (out.new.items ≡ out.old.items ++ (text.now ++ codes "\n")) }
+{
+    out.extend_from_slice(text)?;
+    out.extend_from_slice(b"\n")
+}
+
+/// Returns all texts, each on a line of its own.
+pub(crate) fn all_lines(alloc: Global, texts: &TextDict) -> Result<Vec<u8>, AllocError>
+    ensures list { IfOk result (λ list. list.items ≡ line_list texts.now.texts) }
+{
+    let mut list = Vec::new(alloc);
+    for n in 0..texts.len() as u64 {
+        push_line(&mut list, texts.text(n))?;
+    }
+    Ok(list)
+}
+
+/// Appends a text on a line of its own, if the partition has its hash.
+fn push_if_in(
+    out: &mut Vec<u8>,
+    text: &[u8],
+    hash: u64,
+    partitions: u64,
+    number: u64,
+) -> Result<(), AllocError>
+    requires some { 0 < partitions }
+    ensures appended { OnOk result (out.new.items
+        ≡ out.old.items ++ (if is_in partitions number hash then text.now ++ codes "\n" else [])) }
+{
+    if hash % partitions == number {
+        push_line(out, text)?;
+    }
+    Ok(())
+}
+
+/// Returns the texts of a partition, each on a line of its own.
+fn lines_of_part(
+    alloc: Global,
+    texts: &TextDict,
+    hashes: &[u64],
+    partitions: u64,
+    number: u64,
+) -> Result<Vec<u8>, AllocError>
+    requires hashed { hashes.now ≡ map hash texts.now.texts }
+    requires some { 0 < partitions }
+    ensures list { IfOk result
+        (λ list. list.items ≡ line_list (lines_in partitions number texts.now.texts)) }
+{
+    let mut list = Vec::new(alloc);
+    for n in 0..texts.len() as u64 {
+        push_if_in(
+            &mut list,
+            texts.text(n),
+            hashes[n as usize],
+            partitions,
+            number,
+        )?;
+    }
+    Ok(list)
+}
+
+/// Appends the sealed texts of a partition.
+pub(crate) fn push_lines_part(
+    alloc: Global,
+    out: &mut Vec<u8>,
+    texts: &TextDict,
+    hashes: &[u64],
+    partitions: u64,
+    number: u64,
+) -> Result<(), AllocError>
+    requires hashed { hashes.now ≡ map hash texts.now.texts }
+    requires some { 0 < partitions }
+    ensures appended { OnOk result
+        (out.new.items ≡ out.old.items ++ lines_part partitions texts.now.texts number) }
+{
+    let part = lines_of_part(alloc, texts, hashes, partitions, number)?;
+    push_sealed(out, part.as_slice())
+}
