@@ -47,11 +47,15 @@ def check(cut: list[bytes]) -> bytes:
     """Composes the counts of a document from those of its blocks."""
     splits = [texts("split", "check", str(PARTITIONS), text=block)[1:] for block in cut]
     columns = [b"".join(split[place] for split in splits) for place in range(3 * PARTITIONS)]
-    pairs = [texts("repeated", text=columns[place]) for place in range(2, 3 * PARTITIONS, 3)]
-    repeated = part("join", text=b"".join(again for _, again in pairs))[1]
-    again = [texts("again", str(PARTITIONS), text=repeated + block) for block in cut]
+    once, *repeated = zip(*(texts("repeated", text=columns[place]) for place in range(2, 3 * PARTITIONS, 3)))
+    none = len(once[0]) - 8  # the length of a list without a hash
+    again = [
+        texts("again", str(PARTITIONS), text=b"".join(hashes) + block)
+        for hashes, block in zip(repeated, cut)
+        if any(len(some) > none for some in hashes)
+    ]
     count = lambda some: sum(int(part("count", text=text)[1]) for text in some)
-    quads = sum(number(single) for single, _ in pairs) + count(b"".join(those) for those in zip(*again))
+    quads = sum(map(number, once)) + count(b"".join(those) for those in zip(*again))
     return b"ok %d quads %d terms %d graphs\n" % (quads, count(columns[0::3]), count(columns[1::3]))
 
 
