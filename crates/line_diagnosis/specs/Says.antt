@@ -172,4 +172,3 @@ Explains s c result = MatchResult result (λ new. Unit {0}) (λ reason. Says s (
 abbrev pub ExpectsPart : Next → ℕ → Result State Reason → Type 0
 ExpectsPart n c result = MatchResult result (λ new. Unit {0})
     (λ reason. (found : Found) × (reason ≡ Unexpected n found) × IsFound (Some c) found)
-

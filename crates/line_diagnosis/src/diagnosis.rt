@@ -16,8 +16,8 @@ ghost use Rattle.line_diagnosis.specs.declared.diagnosis.Counted.TheVariants.{By
 use crate::between::{step_after_string, step_between};
 use crate::iris::{step_backslash, step_escape, step_iri};
 use crate::labels::{step_label, step_label_dot, step_label_dots};
-use crate::literals::{step_string, step_string_backslash, step_string_escape};
 use crate::likeness::{begins_with_mark, is_utf16, packing_of};
+use crate::literals::{step_string, step_string_backslash, step_string_escape};
 use crate::reason::{Found, Next, Reason};
 use crate::state::{State, after};
 use crate::tags::{step_subtag, step_tag};

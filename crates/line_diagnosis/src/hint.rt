@@ -10,7 +10,8 @@ ghost use Rattle.line_diagnosis.specs.declared.reason.Reason.TheVariants.{IriCha
 
 use crate::diagnosis::Diagnosis;
 use crate::likeness::{
-    closes_iri, has_end_tag, is_attribute, is_bare_iri, is_conflict_mark, is_end_tag, is_html, is_text, is_turtle,
+    closes_iri, has_end_tag, is_attribute, is_bare_iri, is_conflict_mark, is_end_tag, is_html,
+    is_text, is_turtle,
 };
 use crate::reason::{Found, Next, Packing, Reason, write_char};
 use excerpt::visible;

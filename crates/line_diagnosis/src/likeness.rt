@@ -150,7 +150,10 @@ pub fn is_conflict_mark(line: &[u8]) -> bool
 
 /// Returns whether `>` closes the IRI that goes on with a text: it comes before each `<` and `"`.
 pub fn closes_iri(text: &[u8]) -> bool {
-    match text.iter().position(|byte| matches!(*byte, b'<' | b'>' | b'"')) {
+    match text
+        .iter()
+        .position(|byte| matches!(*byte, b'<' | b'>' | b'"'))
+    {
         Some(at) => text[at] == b'>',
         None => false,
     }

@@ -257,12 +257,7 @@ fn begins_triple(kind: Kind) -> bool {
 
 /// Returns the hint for a character that begins no terminal, with these symbols on the stack, after these terminals and
 /// before these characters.
-pub fn hint_at_char(
-    tokens: &[Token<'_>],
-    c: char,
-    after: &[char],
-    stack: &[Symbol],
-) -> Option<Hint>
+pub fn hint_at_char(tokens: &[Token<'_>], c: char, after: &[char], stack: &[Symbol]) -> Option<Hint>
     ensures mark { c ≡ 0xFEFF → result ≡ Some ByteOrderMark }
     ensures other { c ≢ 0xFEFF → result ≢ Some ByteOrderMark }
 {
