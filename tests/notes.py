@@ -819,12 +819,23 @@ def daily_queries():
     yield [("group", [labels]), ("group", [having((LABEL, "m"), subject="q")]), where(*compare("=", "l", "m"))], 1
     yield [labels, where("and", compare("=", ("LANG", var("l")), value_of("en")), compare("!=", ("STR", var("l")), value_of("")))], 0
     yield [minima, where("or", compare("<", "n", one), ("isLITERAL", var("n")))], 0
+    yield [labels, where("and", compare(">=", "l", value_of("Gain 2")), compare("<", "l", value_of("Gain 5")))], 1
+    yield [minima, where("in", False, var("n"), [zero, one])], 1
+    yield [minima, where("in", True, var("n"), [zero, one])], 1
+    is_decimal = compare("=", ("DATATYPE", var("n")), ("term", ("iri", DECIMAL)))
+    yield [minima, where("and", is_decimal, compare("<", "n", one))], 0
+    yield [minima, where(*is_decimal), where(*compare("<", "n", one))], 0
+    yield [minima, ("bind", compare("<", "n", one), "low", Site()), where(*var("low"))], 1
+    yield [labels, ("optional", [having((SEE, "h"))], None), where("or", ("not", ("bound", var("h"))), compare("=", "h", ("term", ("iri", "http://e/home1"))))], 0
+    yield [dates, ("optional", [having((ISSUED, "y")), where(*compare("<", "y", "d"))], None)], 1
+    yield [having((SEE, "h")), ("bind", ("STR", var("h")), "text", Site()), where("isLITERAL", var("h"))], 0
     classes = ("triples", [(var("c"), TYPE, CLASSES[0])])
     unlabelled = ("minus", [having((LABEL, "l"), subject="c")])
     yield [("graph", var("g"), [classes, unlabelled])], 0
     yield [("graph", var("g"), [classes]), ("graph", var("h"), [having((LABEL, "l"), subject="c")]), where(*compare("!=", "g", "h"))], 0
     yield [("graph", var("g"), [classes]), unlabelled], 0, True
     yield [("graph", var("g"), [classes]), unlabelled], 1, False
+    yield [("values", "g", [GRAPHS[0]]), ("graph", var("g"), [classes]), ("optional", [("graph", var("h"), [having((LABEL, "l"), subject="c")])], None)], 0, False
 
 
 def daily():
