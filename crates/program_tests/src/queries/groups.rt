@@ -107,6 +107,7 @@ SELECT * { UNION { } }
 spq: query, line 1, column 12: expected a term (an IRI, a prefixed name, a variable, a blank node or a literal), '{', '}' or a pattern (such as OPTIONAL or FILTER), found 'UNION'
 SELECT * { UNION { } }
            ^
+hint: UNION is between two groups: { .. } UNION { .. }
 
 SELECT *‹0A›WHERE {‹0A›  ?s ?p‹0A›}
 spq: query, line 4, column 1: expected a term (an IRI, a prefixed name, a variable, a blank node or a literal), found '}'

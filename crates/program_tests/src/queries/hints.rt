@@ -266,7 +266,7 @@ SELECT * { ?s http://e/p ?o }
 hint: write an IRI in angle brackets, as <http://example.org/name>
 
 SELECT * { ?s ?p ?o FILTER(?o = http://e/p) }
-spq: query, line 1, column 38: expected an operator (such as '=' or '&&') or ')', found '/'
+spq: query, line 1, column 38: expected '&&', '||' or ')', found '/'
 SELECT * { ?s ?p ?o FILTER(?o = http://e/p) }
                                      ^
 hint: write an IRI in angle brackets, as <http://example.org/name>
