@@ -35,10 +35,15 @@ def fault_of(path, link):
     return "" if not name or not target.endswith(".md") or name in anchors(target) else "the page has no such heading"
 
 
+def pages():
+    """Returns the paths of the pages, from the top of the repository."""
+    return sorted({os.path.relpath(it, ROOT) for pattern in PAGES for it in glob.glob(f"{ROOT}/{pattern}", recursive=True)})
+
+
 def faults():
     """Returns a line for each link to a file or a heading that does not exist."""
     found = []
-    for path in sorted({it for pattern in PAGES for it in glob.glob(f"{ROOT}/{pattern}", recursive=True)}):
+    for path in (f"{ROOT}/{it}" for it in pages()):
         with open(path, encoding="utf-8") as file:
             text = CODE.sub(lambda it: re.sub(r"[^\n]", " ", it[0]), file.read())
         for link in LINK.findall(text):

@@ -16,6 +16,7 @@ It proves nothing and needs only Python 3. It checks:
 - the figures of time and memory of the pages are those of bench/results.json, and none is written by hand;
 - the options, statuses and keywords of docs/USAGE.md, from which docs/spq.1 is generated;
 - each link leads to a file and a heading that exist;
+- the pages have at most 300,000 bytes in all;
 - docs/architecture.svg, which tests/diagram.py draws, shows every crate of the program.
 """
 import argparse
@@ -37,6 +38,7 @@ import usage
 from sources import ROOT, crates, mutants
 
 MOST_IN_THE_GATE = 80
+MOST_BYTES = 300_000
 PART = re.compile(r"(<!-- generated: (\w+), by tests/pages\.py -->\n).*?(<!-- end of the generated part -->)", re.S)
 PAGES = [theorem.PAGE, *figures.PAGES]
 PARTS = {**theorem.PARTS, **figures.PARTS}
@@ -126,6 +128,12 @@ def diagram_faults():
     return faults if read(diagram.DIAGRAM) == diagram.svg() else faults + [f"{diagram.DIAGRAM}: is not what tests/diagram.py draws"]
 
 
+def size_faults():
+    """Returns a line if the pages are too long in all."""
+    size = sum(os.path.getsize(f"{ROOT}/{path}") for path in links.pages())
+    return [f"the pages have {size} bytes in all, and at most {MOST_BYTES} are allowed"] if size > MOST_BYTES else []
+
+
 def main():
     words = argparse.ArgumentParser(description=__doc__.partition("\n")[0])
     words.add_argument("--write", action="store_true", help="rewrite the generated parts of the pages first")
@@ -141,7 +149,7 @@ def main():
         for path, text in pages.items():
             write(path, text)
     faults = api.faults() + mutant_faults() + name_faults() + known_faults() + theorem.faults(PART.sub("", read(theorem.PAGE)))
-    faults += contracts.rewritten(read(contracts.PAGE), calls.contract_of)[1] + usage.faults() + diagram_faults() + links.faults()
+    faults += contracts.rewritten(read(contracts.PAGE), calls.contract_of)[1] + usage.faults() + diagram_faults() + links.faults() + size_faults()
     faults += [it for path in PAGES for it in page_faults(path)]
     faults += [it for path in figures.PAGES for it in figures.faults(path, read(path))]
     for it in faults:

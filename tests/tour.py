@@ -37,7 +37,7 @@ NOT_RUN = [
     ("README.md", "./install ", "proves and builds the program"),
     ("README.md", ".ci/run ", "the gate itself"),
     ("bench/README.md", "apt-get install raptor2-utils", "installs packages"),
-    ("bench/README.md", "bench/compare.py --tables growth", "benchmarks"),
+    ("bench/README.md", "bench/compare.py --tables shapes", "benchmarks"),
     ("bench/README.md", "bench/compare.py --baseline", "benchmarks"),
     ("bench/README.md", "just measure", "benchmarks"),
     ("bench/README.md", "bench/queries.py --only join", "benchmarks"),
