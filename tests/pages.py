@@ -7,7 +7,8 @@
 
 It proves nothing and needs only Python 3. It checks:
 
-- each call of the main interface has documentation, a clause, a test and a mutant (tests/api.py lists the calls);
+- each public call has documentation, a clause, a test and a mutant, or a reason (tests/offered.py), and each of the main interface
+  is called by a test itself (tests/api.py lists these);
 - each mutant can be applied: every `old:` text is in its file once;
 - the gate has at most 80 mutants, and one for each known fault in docs/MUTANTS.md that mutants show;
 - the mutants and tests that docs/MUTANTS.md names exist;
@@ -33,6 +34,7 @@ import contracts
 import diagram
 import figures
 import links
+import offered
 import theorem
 import usage
 from sources import ROOT, crates, mutants
@@ -148,7 +150,7 @@ def main():
     if given.out:
         for path, text in pages.items():
             write(path, text)
-    faults = api.faults() + mutant_faults() + name_faults() + known_faults() + theorem.faults(PART.sub("", read(theorem.PAGE)))
+    faults = api.faults() + offered.faults() + mutant_faults() + name_faults() + known_faults() + theorem.faults(PART.sub("", read(theorem.PAGE)))
     faults += contracts.rewritten(read(contracts.PAGE), calls.contract_of)[1] + usage.faults() + diagram_faults() + links.faults() + size_faults()
     faults += [it for path in PAGES for it in page_faults(path)]
     faults += [it for path in figures.PAGES for it in figures.faults(path, read(path))]
