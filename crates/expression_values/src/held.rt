@@ -21,7 +21,7 @@ pub enum Held<'a> {
 }
 
 impl<'a> Drop for Held<'a> {
-    /// Written by hand (docs/PROOF.md).
+    /// Implemented by hand. A proof then meets one call at each exit that drops a value.
     fn drop(self) {
         match self {
             Held::Borrowed(_) | Held::Owned(_) => {}

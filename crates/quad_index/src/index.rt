@@ -27,7 +27,8 @@ pub struct Index {
 }
 
 impl Drop for Index {
-    /// Drops the lists. Written by hand (docs/PROOF.md).
+    /// Drops the lists. It is written out and not derived, so that a proof meets one call at each exit that
+    /// drops an index.
     fn drop(self) {
         let Index {
             gspo: _,

@@ -26,7 +26,8 @@ pub struct QuadList {
 }
 
 impl Drop for QuadList {
-    /// Drops the quads. Written by hand (docs/PROOF.md).
+    /// Drops the quads. It is written out and not derived, so that a proof meets one call at each exit that
+    /// drops a list.
     fn drop(self) {
         let QuadList { stored: _ } = self;
     }

@@ -21,7 +21,8 @@ pub struct Text {
 }
 
 impl Drop for Text {
-    /// Drops the string. Written by hand (docs/PROOF.md).
+    /// Drops the string. It is written out and not derived, so that a proof meets one call at each
+    /// exit that drops a text.
     #[inline(always)]
     fn drop(self) {
         let Text { string: _ } = self;

@@ -21,7 +21,8 @@ pub struct Rows {
 }
 
 impl Drop for Rows {
-    /// Frees the cells. Written by hand (docs/PROOF.md).
+    /// Frees the cells. It is written out and not derived, so that a proof meets one call at each exit
+    /// that drops rows.
     fn drop(self) {
         let Rows {
             width: _,

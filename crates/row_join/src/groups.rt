@@ -20,7 +20,8 @@ pub(crate) struct Groups {
 }
 
 impl Drop for Groups {
-    /// Drops the table. Written by hand (docs/PROOF.md).
+    /// Drops the table. It is written out and not derived, so that a proof meets one call at each exit
+    /// that drops a table.
     fn drop(self) {
         let Groups { keys: _, groups: _ } = self;
     }

@@ -21,7 +21,8 @@ pub(crate) struct Keys {
 }
 
 impl Drop for Keys {
-    /// Frees the buffers. Written by hand (docs/PROOF.md).
+    /// Frees the buffers. It is written out and not derived, so that a proof meets one call at each exit that drops
+    /// keys.
     fn drop(self) {
         let Keys {
             hashing: _,

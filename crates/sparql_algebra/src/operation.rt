@@ -21,7 +21,7 @@ pub enum Operation {
 }
 
 impl Drop for Operation {
-    /// Written by hand (docs/PROOF.md).
+    /// Implemented by hand. A proof then meets one call at each exit that drops an operation.
     fn drop(self) {
         match self {
             Operation::Optional(_, _)

@@ -16,7 +16,7 @@ pub enum VarOrTerm {
 }
 
 impl Drop for VarOrTerm {
-    /// Written by hand (docs/PROOF.md).
+    /// Implemented by hand. A proof then meets one call at each exit that drops a value.
     fn drop(self) {
         match self {
             VarOrTerm::Variable(_) | VarOrTerm::Blank(_) | VarOrTerm::Term(_) => {}

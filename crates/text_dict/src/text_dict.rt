@@ -24,7 +24,7 @@ pub struct TextDict {
 }
 
 impl Drop for TextDict {
-    /// Frees the texts and the table. Written by hand (docs/PROOF.md).
+    /// Frees the texts and the table. It is written out for the same reason as the drop of [`Texts`].
     fn drop(self) {
         let TextDict {
             texts: _,
