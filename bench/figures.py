@@ -16,9 +16,10 @@ from report import SERDI
 from targets import MANY, ONE, Figures, highest, without
 
 HERE = os.path.dirname(os.path.abspath(__file__))
-PAGES = ["README.md", "docs/COST.md", "docs/COMPARISON.md", "docs/USAGE.md", "bench/RESULTS.md"]
-# Texts that are no measurements but parts of the design.
+PAGES = ["README.md", "docs/COST.md", "docs/COMPARISON.md", "docs/USAGE.md", "bench/RESULTS.md", "distributed/README.md"]
+# Texts that are no measurements but parts of the design, and those of one page.
 CONSTANTS = ["64 MiB", "4 MiB", "2 MiB", "4 KiB", "128 KiB", "10 MB", "8 GB", "200 milliseconds"]
+CONSTANTS_OF = {"distributed/README.md": ["30 seconds", "256 MiB", "8 bytes for each quad"]}
 UNIT = r"(?:seconds?|milliseconds?|minutes?|min|ms|MiB|KiB|GiB|MB|GB|bytes (?:a|per|for each) \w+|times (?:as long|its size|the size))"
 FIGURE = re.compile(rf"\b\d[\d.,]*(?:(?: to | and |, | or |-)\d[\d.,]*)*[  ]?{UNIT}\b")
 PHRASE = re.compile(r"(<!-- figure: ([\w-]+) -->).*?(<!-- end -->)", re.S)
@@ -238,6 +239,6 @@ def faults(path, page):
     text = HIDDEN.sub(lambda found: re.sub(r"[^\n]", " ", found[0]), page)
     found = []
     for number, line in enumerate(text.split("\n"), 1):
-        hits = [it[0] for it in FIGURE.finditer(line) if it[0].strip() not in CONSTANTS]
+        hits = [it[0] for it in FIGURE.finditer(line) if it[0].strip() not in CONSTANTS + CONSTANTS_OF.get(path, [])]
         found += [f"{path}:{number}: the figure '{it}' is written by hand; take it from bench/results.json (bench/figures.py)" for it in hits]
     return found

@@ -29,7 +29,7 @@ SECTIONS = [
     ("dict_core", "Numbering the quads of pieces", ["number_piece", "merge"], ["NumQuad", "LocalPiece"]),
     ("quad_index", "The index of quads", ["Index::build", "Index::scan", "Index::graphs", "Index::quads"], ["Index"]),
     ("sparql_read", "Reading a query", ["read_query"],
-     ["Query", "Selection", "Element", "Triple", "PatternTerm", "GraphName", "Expression", "Function", "Comparison", "QueryFault"]),
+     ["Query", "Selection", "Element", "Triple", "VarOrTerm", "VarOrIri", "Expression", "Function", "Comparison", "QueryFault"]),
     ("sparql_algebra", "Translation to the algebra", ["translate"], ["Plan", "Operator", "TriplePattern", "PatternTerm", "GraphName"]),
     ("sparql_algebra", "Expressions", ["value", "Lookup::get", "truth", "compare"], ["Expr", "Lookup", "ExprFault", "Comparison", "Function"]),
     ("sparql_eval", "Rows of solutions", ["Rows::width", "Rows::len", "Rows::get"], ["Rows", "How", "EvalFault"]),
@@ -85,12 +85,11 @@ def call_lines(home, path):
     if not at:
         return [f"### `{path}`", "", "There is no such function.", ""]
     source, function = at
-    crate, _, is_offered = found_at(home, path.partition("::")[0])
+    crate = found_at(home, path.partition("::")[0])[0]
     exporters = re_exporters(crate, path.partition("::")[0])
     others = f", re-exported by {spelled(exporters)}" if exporters else ""
-    lacking = "" if is_offered else f"; not re-exported yet by `{home}`"
     lines = [f"### `{path}`", "", "```rust", *function.signature.split("\n"), "```", ""]
-    lines += [f"Defined in [{crate}](../crates/{crate}/{source.path}){others}{lacking}.", "", *clause_rows(source, function), ""]
+    lines += [f"Defined in [{crate}](../crates/{crate}/{source.path}){others}.", "", *clause_rows(source, function), ""]
     shown = mutants_of(crate, function.path)
     if function.owner and function.owner.kind == "trait":
         lines += implementer_lines(function.owner.name)
@@ -101,11 +100,10 @@ def call_lines(home, path):
 
 def type_row(home, name):
     crate, there, is_offered = found_at(home, name)
-    if not crate:
-        return f"| `{name}` | | not re-exported yet by `{home}` | |"
+    if not is_offered:
+        return f"| `{name}` | | | |"
     source, item = defined_in(crate, there)
-    others = spelled(re_exporters(crate, there)) + ("" if is_offered else f" not re-exported yet by `{home}`")
-    return f"| `{name}` | [{crate}](../crates/{crate}/{source.path}) | {others.strip()} | {first_sentence(source.doc_of(item))} |"
+    return f"| `{name}` | [{crate}](../crates/{crate}/{source.path}) | {spelled(re_exporters(crate, there))} | {first_sentence(source.doc_of(item))} |"
 
 
 def calls_part():
@@ -117,17 +115,6 @@ def calls_part():
         for path in calls:
             lines += call_lines(home, path)
     return lines
-
-
-def missing_part():
-    """Lists the names that their crate does not offer yet."""
-    lacking = {}
-    for home, _, calls, types in SECTIONS:
-        for name in dict.fromkeys([it.partition("::")[0] for it in calls] + types):
-            if not found_at(home, name)[2] and name not in lacking.setdefault(home, []):
-                lacking[home].append(name)
-    rows = [f"- `{home}`: {spelled(names)}" for home, names in lacking.items() if names]
-    return ["Not re-exported yet, by the crate that offers them to users:", "", *rows, ""] if rows else []
 
 
 HEAD = """# Public calls
@@ -151,7 +138,7 @@ are not on this page. [CONTRACTS.md](../docs/CONTRACTS.md) has the most importan
 
 
 def page():
-    return "\n".join([HEAD, *missing_part(), *calls_part()])
+    return "\n".join([HEAD, *calls_part()])
 
 
 def lacking(home, path):
@@ -171,9 +158,11 @@ def lacking(home, path):
 
 
 def faults():
-    """Returns a line for each call of the main interface that lacks documentation, a clause, a test or a mutant."""
+    """Returns a line for each call of the main interface that lacks documentation, a clause, a test or a mutant, and for each name
+    that its crate does not offer."""
     found = []
-    for home, _, calls, _ in SECTIONS:
+    for home, _, calls, types in SECTIONS:
+        found += [f"tests/api.py: {home} does not offer {it}" for it in types + calls if not found_at(home, it.partition("::")[0])[2]]
         for path in (it for it in calls if it not in EXEMPT):
             found += [f"tests/api.py: {home}::{path} lacks {what}" for what in lacking(home, path)]
     return found

@@ -7,7 +7,8 @@
 
 It proves nothing and needs only Python 3. It checks:
 
-- each call of the main interface has documentation, a clause, a test and a mutant (tests/api.py lists the calls);
+- each public call has documentation, a clause, a test and a mutant, or a reason (tests/offered.py), and each of the main interface
+  is called by a test itself (tests/api.py lists these);
 - each mutant can be applied: every `old:` text is in its file once;
 - the gate has at most 80 mutants, and one for each known fault in docs/MUTANTS.md that mutants show;
 - the mutants and tests that docs/MUTANTS.md names exist;
@@ -16,7 +17,7 @@ It proves nothing and needs only Python 3. It checks:
 - the figures of time and memory of the pages are those of bench/results.json, and none is written by hand;
 - the options, statuses and keywords of docs/USAGE.md, from which docs/spq.1 is generated;
 - each link leads to a file and a heading that exist;
-- the pages have at most 300,000 bytes in all;
+- the pages have at most 300,000 bytes in total, and bench/RESULTS.md and docs/PROOF.md at most 12,000 and 10,000;
 - docs/architecture.svg, which tests/diagram.py draws, shows every crate of the program.
 """
 import argparse
@@ -33,12 +34,14 @@ import contracts
 import diagram
 import figures
 import links
+import offered
 import theorem
 import usage
 from sources import ROOT, crates, mutants
 
 MOST_IN_THE_GATE = 80
-MOST_BYTES = 300_000
+# Of all pages in total, and of single ones.
+MOST_BYTES, MOST_BYTES_OF = 300_000, {"bench/RESULTS.md": 12_000, "docs/PROOF.md": 10_000}
 PART = re.compile(r"(<!-- generated: (\w+), by tests/pages\.py -->\n).*?(<!-- end of the generated part -->)", re.S)
 PAGES = [theorem.PAGE, *figures.PAGES]
 PARTS = {**theorem.PARTS, **figures.PARTS}
@@ -129,9 +132,10 @@ def diagram_faults():
 
 
 def size_faults():
-    """Returns a line if the pages are too long in all."""
-    size = sum(os.path.getsize(f"{ROOT}/{path}") for path in links.pages())
-    return [f"the pages have {size} bytes in all, and at most {MOST_BYTES} are allowed"] if size > MOST_BYTES else []
+    """Returns a line for each page that is too long, and one if all are too long in total."""
+    sizes = {path: os.path.getsize(f"{ROOT}/{path}") for path in links.pages()}
+    bounds = [(path, sizes[path], most) for path, most in MOST_BYTES_OF.items()] + [("all pages", sum(sizes.values()), MOST_BYTES)]
+    return [f"{what}: {size} bytes, and at most {most} are allowed" for what, size, most in bounds if size > most]
 
 
 def main():
@@ -148,7 +152,7 @@ def main():
     if given.out:
         for path, text in pages.items():
             write(path, text)
-    faults = api.faults() + mutant_faults() + name_faults() + known_faults() + theorem.faults(PART.sub("", read(theorem.PAGE)))
+    faults = api.faults() + offered.faults() + mutant_faults() + name_faults() + known_faults() + theorem.faults(PART.sub("", read(theorem.PAGE)))
     faults += contracts.rewritten(read(contracts.PAGE), calls.contract_of)[1] + usage.faults() + diagram_faults() + links.faults() + size_faults()
     faults += [it for path in PAGES for it in page_faults(path)]
     faults += [it for path in figures.PAGES for it in figures.faults(path, read(path))]

@@ -1,14 +1,14 @@
 #!/usr/bin/env python3
 """Runs the commands that the documents show, and compares what is printed with what they show.
 
-    tour.py [PROGRAM] [--only WORD] [--write]
+    tour.py [PROGRAM] [--only WORD] [--write] [--gate]
     tour.py --covered
 
 PROGRAM is the program (crates/spq/out/spq where none is given). The commands are those of the blocks that begin with
 ```console in the pages, which are all files *.md: a line `$ COMMAND`, which lines `> REST` continue, and below it what it
 prints at a terminal, on standard output and on standard error. The commands of a page run in one shell, in a folder with the
 files of docs/tour and with the program on the PATH as `spq`. They need jq, gzip, GNU parallel and serdi.
-`--write` puts what was printed into the pages.
+`--write` puts what was printed into the pages. With `--gate` one line says so if one of these programs is missing, and that is no error.
 
 A block to paste begins with ```sh, and a block ```text right after it has what it prints. It runs in a shell of its own, in a
 folder that has docs/tour, with the program in ~/.local/bin.
@@ -32,6 +32,7 @@ import terminal
 HERE = os.path.dirname(os.path.abspath(__file__))
 ROOT = os.path.dirname(HERE)
 MARK = "-- next command --"
+NEEDED = ["jq", "gzip", "parallel", "serdi"]
 # The blocks of commands that are not run: the page, a text that no other such block of the page has, and the reason.
 NOT_RUN = [
     ("README.md", "./install ", "proves and builds the program"),
@@ -206,10 +207,15 @@ def main():
     words.add_argument("program", nargs="?", default=os.path.join(ROOT, "crates", "spq", "out", "spq"))
     words.add_argument("--only", default="", help="the pages with this word in their path")
     words.add_argument("--write", action="store_true")
+    words.add_argument("--gate", action="store_true", help="it is no error if a program that the commands need is missing")
     words.add_argument("--covered", action="store_true", help="check only that each block of commands is run or in NOT_RUN")
     given = words.parse_args()
     failed = uncovered()
     if given.covered:
+        sys.exit(1 if failed else 0)
+    lack = [it for it in NEEDED if not shutil.which(it)]
+    if lack and given.gate:
+        print(f"The commands of the pages need {', '.join(lack)}; they were skipped.")
         sys.exit(1 if failed else 0)
     if not os.path.exists(given.program):
         sys.exit(f"no program at {given.program}: build it first (see README)")
