@@ -153,7 +153,7 @@ def cost_memory():
     rows = [[kind, f"{it['document']:.0f}", f"{it['check']:.0f}", f"{it['select']:.0f}"] for kind, it in memory().items()]
     lines = [f"Peak memory, {quads:,} distinct statements of one kind, four workers, in bytes for each statement:", "",
              *markdown(["document", "size of the document", "`check`", "`select`"], rows).splitlines(), ""]
-    lines += ["With this much memory, so many millions of statements, if a tenth of the memory is left to the system:", ""]
+    lines += ["Millions of statements that fit into a memory of this size, if a tenth of it is left to the system:", ""]
     sizes = [[kind, *(" / ".join(f"{size * 1e9 * SHARE / it[name] / 1e6:.0f}" for name in ("check", "select")) for size in SIZES)] for kind, it in memory().items()]
     return lines + markdown(["document: `check` / `select`", *(f"{size} GB" for size in SIZES)], sizes).splitlines()
 
