@@ -10,12 +10,13 @@
 //! Standard: RDF 1.1 N-Quads, grammar; RDF 1.1 Concepts and Abstract Syntax, section 3 (when two terms are the same).
 //! The numbers are a choice of this project.
 //!
-//! Reading order: `text_piece`, `hashes`, `naming` (one slice), `statements`, `reading` (a piece), `adding`, `terms`.
+//! Reading order: `text_piece`, `hashes`, `new_texts`, `naming` (one slice), `statements`, `reading` (a piece), `adding`, `terms`.
 #![tactic(auto)]
 
 mod adding;
 mod hashes;
 mod naming;
+mod new_texts;
 mod reading;
 mod renumbering;
 mod statements;

@@ -8,7 +8,7 @@ ghost use Rattle.text_pieces.specs.Slices.{IsKnownName, IsKnownNode, IsNumberOf,
 
 use nquads_core::RawStatement;
 use nquads_scan::{Form, canonical};
-use std::alloc::{AllocError, AllocFailed, Global};
+use std::alloc::{AllocError, AllocFailed};
 use text_dict::TextDict;
 
 /// Why a slice is not numbered.
@@ -88,7 +88,6 @@ pub(crate) fn number_text(
 /// Returns the number of the term that a slice with this hash denotes. A slice that has no number is checked, and rewritten
 /// to the N-Quads form of its term. `form` is a buffer for that.
 pub(crate) fn number_slice(
-    alloc: Global,
     dict: &TextDict,
     new: &mut TextDict,
     form: &mut Vec<u8>,
@@ -103,13 +102,12 @@ pub(crate) fn number_slice(
 {
     match known(dict, new, hash, raw.as_bytes()) {
         Some(n) => Ok(n),
-        None => number_new(alloc, dict, new, form, hash, raw),
+        None => number_new(dict, new, form, hash, raw),
     }
 }
 
 /// Returns the number of the term that a slice denotes. The slice has this hash, and the dictionary lacks it.
 fn number_new(
-    alloc: Global,
     dict: &TextDict,
     new: &mut TextDict,
     form: &mut Vec<u8>,
@@ -123,6 +121,7 @@ fn number_new(
     ensures number { IfOk result
         (IsNumberOf (λ _. ⊤) dict.now.texts new.old.texts new.new.texts raw.now) }
 {
+    let alloc = *form.allocator();
     form.clear();
     match canonical(alloc, raw, form)? {
         Some(Form::Same) => Ok(number_lacking(dict, new, hash, raw.as_bytes())?),
@@ -155,7 +154,6 @@ fn first_byte(text: &[u8]) -> u8
 
 /// Returns the number of the IRI or blank node that a slice denotes.
 pub(crate) fn number_node(
-    alloc: Global,
     dict: &TextDict,
     new: &mut TextDict,
     form: &mut Vec<u8>,
@@ -168,7 +166,7 @@ pub(crate) fn number_node(
     ensures number { IfOk result (IsNumberOf (λ t. is_node t ≡ true)
         dict.now.texts new.old.texts new.new.texts raw.now) }
 {
-    let n = number_slice(alloc, dict, new, form, hash, raw)?;
+    let n = number_slice(dict, new, form, hash, raw)?;
     if first_byte(text_at(dict, new, n)) == b'"' {
         return Err(NamingFault::NeedsFullReader);
     }
@@ -186,7 +184,6 @@ fn is_same(a: &str, b: &str) -> bool
 /// Returns the number of the IRI or blank node that a slice denotes. `last` is the number of the slice `before`. If both slices
 /// are the same, nothing is looked up.
 pub(crate) fn number_again(
-    alloc: Global,
     dict: &TextDict,
     new: &mut TextDict,
     form: &mut Vec<u8>,
@@ -207,12 +204,11 @@ pub(crate) fn number_again(
             return Ok(n);
         }
     }
-    number_node(alloc, dict, new, form, hash, raw)
+    number_node(dict, new, form, hash, raw)
 }
 
 /// Returns the number of the graph name that a slice denotes. `last` is the number of the graph label of the statement before.
 pub(crate) fn number_name(
-    alloc: Global,
     dict: &TextDict,
     new: &mut TextDict,
     form: &mut Vec<u8>,
@@ -230,14 +226,13 @@ pub(crate) fn number_name(
         dict.now.texts new.old.texts new.new.texts name.now) }
 {
     match before.graph {
-        Some(label) => number_again(alloc, dict, new, form, label, last, hash, name),
-        None => number_node(alloc, dict, new, form, hash, name),
+        Some(label) => number_again(dict, new, form, label, last, hash, name),
+        None => number_node(dict, new, form, hash, name),
     }
 }
 
 /// Returns the number of the IRI that a slice denotes.
 pub(crate) fn number_iri(
-    alloc: Global,
     dict: &TextDict,
     new: &mut TextDict,
     form: &mut Vec<u8>,
@@ -250,7 +245,7 @@ pub(crate) fn number_iri(
     ensures number { IfOk result (IsNumberOf (λ t. is_iri t ≡ true)
         dict.now.texts new.old.texts new.new.texts raw.now) }
 {
-    let n = number_slice(alloc, dict, new, form, hash, raw)?;
+    let n = number_slice(dict, new, form, hash, raw)?;
     if first_byte(text_at(dict, new, n)) != b'<' {
         return Err(NamingFault::NeedsFullReader);
     }

@@ -12,6 +12,7 @@ ghost use Rattle.text_pieces.specs.Slices.{AreQuadsOf, AreTermNumbers};
 
 use crate::hashes::{count_lacking_slices, slice_hashes};
 use crate::naming::{NamingFault, number_text};
+use crate::new_texts::NewTexts;
 use crate::renumbering::renumbered_quads;
 use crate::statements::number_statements;
 use crate::text_piece::TextPiece;
@@ -61,9 +62,10 @@ fn read_split(alloc: Global, dict: &TextDict, bytes: &[u8]) -> Result<TextPiece,
     let room = count_lacking_slices(dict, hashes.as_slice());
     let mut new = TextDict::with_room(alloc, dict.state(), room)?;
     let quads = number_statements(alloc, dict, &mut new, raws, hashes.as_slice())?;
+    let hashed = NewTexts::of(alloc, new)?;
     Ok(TextPiece {
         base: dict.len(),
-        new,
+        new: hashed,
         quads,
         lines: split.lines,
     })
@@ -102,7 +104,7 @@ fn number_quads(
     state: RandomState,
     dict: &TextDict,
     piece: Piece,
-) -> Result<(TextDict, Vec<NumQuad>), AllocError>
+) -> Result<(NewTexts, Vec<NumQuad>), AllocError>
     requires occur { All IsNQuadsTerm (terms_of (map parts_of piece.quads.items)) }
     ensures numbered { IfOk result (λ x. AreQuadsOf dict.now.texts x.0.texts
         (map parts_of piece.quads.items) x.1.items) }
@@ -111,7 +113,8 @@ fn number_quads(
     let mut new = TextDict::with_state(alloc, dict.state());
     let numbers = number_terms(alloc, dict, &mut new, local.dict())?;
     let quads = renumbered_quads(alloc, numbers.as_slice(), local.quads())?;
-    Ok((new, quads))
+    let hashed = NewTexts::of(alloc, new)?;
+    Ok((hashed, quads))
 }
 
 /// Returns the number of each of these terms. Texts that the dictionary lacks are appended to the new texts.

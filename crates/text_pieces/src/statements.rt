@@ -10,6 +10,14 @@ use nquads_core::RawStatement;
 use std::alloc::Global;
 use text_dict::TextDict;
 
+/// A statement, and the numbers of its subject and of its graph label, if they are known.
+#[derive(Clone, Copy)]
+struct Last<'d> {
+    raw: RawStatement<'d>,
+    subject: Option<u64>,
+    graph: Option<u64>,
+}
+
 /// Returns the numbers of the statements of a piece. Texts that the dictionary lacks are appended to the new texts.
 pub(crate) fn number_statements(
     alloc: Global,
@@ -26,45 +34,43 @@ pub(crate) fn number_statements(
 {
     let mut quads = Vec::with_capacity(alloc, raws.len())?;
     let mut form = Vec::new(alloc);
-    let mut before = RawStatement {
-        subject: "",
-        predicate: "",
-        object: "",
+    let mut last = Last {
+        raw: RawStatement {
+            subject: "",
+            predicate: "",
+            object: "",
+            graph: None,
+        },
+        subject: None,
         graph: None,
     };
-    let mut subject = None;
-    let mut graph = None;
     for i in 0..raws.len() {
         let raw = &raws[i];
-        let quad = number_statement(
-            alloc, dict, new, &mut form, &before, subject, graph, raw, &hashes[i],
-        )?;
+        let quad = number_statement(dict, new, &mut form, &last, raw, &hashes[i])?;
         quads.push_reserved(quad);
-        before = *raw;
-        subject = Some(quad.s);
-        graph = quad.g;
+        last = Last {
+            raw: *raw,
+            subject: Some(quad.s),
+            graph: quad.g,
+        };
     }
     Ok(quads)
 }
 
-/// Returns the numbers of a statement's terms. `before` is the statement before, if it has numbers: those of its subject and of
-/// its graph label.
+/// Returns the numbers of a statement's terms. `last` is the statement before.
 fn number_statement(
-    alloc: Global,
     dict: &TextDict,
     new: &mut TextDict,
     form: &mut Vec<u8>,
-    before: &RawStatement<'_>,
-    subject: Option<u64>,
-    graph: Option<u64>,
+    last: &Last<'_>,
     raw: &RawStatement<'_>,
     hashes: &SliceHashes,
 ) -> Result<NumQuad, NamingFault>
     requires state { new.old.state ≡ dict.now.state }
-    requires subject { IfSome subject
-        (IsKnownNode dict.now.texts new.old.texts before.now.subject.now) }
-    requires graph { IfSome graph
-        (IsKnownName dict.now.texts new.old.texts before.now.graph) }
+    requires subject { IfSome last.now.subject
+        (IsKnownNode dict.now.texts new.old.texts last.now.raw.subject.now) }
+    requires graph { IfSome last.now.graph
+        (IsKnownName dict.now.texts new.old.texts last.now.raw.graph) }
     requires hashed { hashes.now ≡ hashes_of dict.now.state raw.now }
     ensures state { new.new.state ≡ dict.now.state }
     ensures number { IfOk result
@@ -75,19 +81,20 @@ fn number_statement(
         IfSome quad.g (IsKnownName dict.now.texts new.new.texts raw.now.graph)) }
 {
     let s = number_again(
-        alloc,
         dict,
         new,
         form,
-        before.subject,
-        subject,
+        last.raw.subject,
+        last.subject,
         hashes.subject,
         raw.subject,
     )?;
-    let p = number_iri(alloc, dict, new, form, hashes.predicate, raw.predicate)?;
-    let o = number_slice(alloc, dict, new, form, hashes.object, raw.object)?;
+    let p = number_iri(dict, new, form, hashes.predicate, raw.predicate)?;
+    let o = number_slice(dict, new, form, hashes.object, raw.object)?;
     let g = match raw.graph {
-        Some(name) => Some(number_name(alloc, dict, new, form, before, graph, hashes.graph, name)?),
+        Some(name) => {
+            Some(number_name(dict, new, form, &last.raw, last.graph, hashes.graph, name)?)
+        }
         None => None,
     };
     Ok(NumQuad { g, s, p, o })

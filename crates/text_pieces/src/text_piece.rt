@@ -1,7 +1,7 @@
 //! A piece of a document, numbered against a dictionary.
 
+use crate::new_texts::NewTexts;
 use dict_core::NumQuad;
-use text_dict::TextDict;
 
 /// The quads of a piece, numbered against a dictionary. A number below the length of the dictionary is that of one of
 /// its texts. A larger one is that of a text of the piece that the dictionary lacks.
@@ -10,7 +10,7 @@ pub struct TextPiece {
     /// The number of texts of the dictionary.
     pub(crate) base: usize,
     /// The texts that the dictionary lacks, by first appearance.
-    pub(crate) new: TextDict,
+    pub(crate) new: NewTexts,
     /// The quads, in order, with repeats.
     pub(crate) quads: Vec<NumQuad>,
     /// The number of lines, including those without a statement.

@@ -7,8 +7,8 @@ use Rattle.text_pieces.proofs.adding.add_texts.Goals as goal
 
 pub intern_hashed-requires-clause-hashed : goal.intern_hashed-requires-clause-hashed
 intern_hashed-requires-clause-hashed c =
-    hash_at (hash_of c.state.result) c.args.new.now.texts c.loop-n.n c.text.result.now c.as_slice-hashes.result.now (c.as_slice-hashes.ensures.value ∙ c.in_ok-found.ensures.hashes) c.text.ensures.value
-    ∙ ap (λ s. hash_of s c.text.result.now) (c.state.ensures.value ∙ sym c.loop-n.invariant.state)
+    hash_at (hash_of c.args.dict.now.state) c.args.new.now.texts c.loop-n.n c.text.result.now c.args.hashes.now c.requires.hashed c.text.ensures.value
+    ∙ ap (λ s. hash_of s c.text.result.now) (sym c.loop-n.invariant.state)
 
 pub loop-n-init : goal.loop-n-init
 loop-n-init c = record {

@@ -5,7 +5,7 @@ use Rattle.nquads_core.specs.Laws.{IsNQuadsTerm}
 use Rattle.dict_core.specs.Appearances.{first_appearances, terms_of}
 use Rattle.dict_core.specs.Numbered.{IsNumbered}
 use Rattle.text_pieces.specs.Pieces.{renumbered_quad}
-use Rattle.text_pieces.specs.Slices.{AreTermNumbers}
+use Rattle.text_pieces.specs.Slices.{AreQuadsOf, AreTermNumbers}
 use Rattle.text_pieces.proofs.AddingLaws.{occur_first, quads_of_terms}
 use Rattle.text_pieces.proofs.reading.number_quads.Goals as goal
 
@@ -20,8 +20,9 @@ returns c =
     let quads = map parts_of c.args.piece.quads.items in
     let own : c.dict.result.now ≡ first_appearances (terms_of quads) = c.dict.ensures.terms ∙ ap (λ l. first_appearances (terms_of l)) c.in_ok-local.ensures.quads in
     let numbers = c.in_ok-numbers.numbers.items in record {
-      numbered = quads_of_terms c.args.dict.now.texts c.number_terms.new.new.texts quads numbers c.quads.result.now c.in_ok-quads.quads.items
+      numbered = subst (λ d. AreQuadsOf c.args.dict.now.texts d.texts quads c.in_ok-quads.quads.items) (sym c.in_ok-hashed.ensures.same)
+          (quads_of_terms c.args.dict.now.texts c.number_terms.new.new.texts quads numbers c.quads.result.now c.in_ok-quads.quads.items
           (subst (λ l. AreTermNumbers c.args.dict.now.texts c.number_terms.new.new.texts l numbers) own c.in_ok-numbers.ensures.numbers)
           (subst (λ l. IsNumbered l (first_appearances (terms_of l)) c.quads.result.now) c.in_ok-local.ensures.quads c.quads.ensures.numbered)
-          (c.in_ok-quads.ensures.value ∙ ap (λ n. map (renumbered_quad 0 n) c.quads.result.now) c.as_slice.ensures.value);
+          (c.in_ok-quads.ensures.value ∙ ap (λ n. map (renumbered_quad 0 n) c.quads.result.now) c.as_slice.ensures.value));
     }

@@ -6,7 +6,7 @@ use Rattle.text_pieces.proofs.statements.number_statement.Goals as goal
 
 pub number_name-requires-clause-known : goal.number_name-requires-clause-known
 number_name-requires-clause-known c =
-    name_kept c.args.dict.now.texts _ _ c.args.before.now.graph c.args.graph
+    name_kept c.args.dict.now.texts _ _ c.args.last.now.raw.graph c.args.last.now.graph
     (grown_by_three c.args.dict.now.texts _ _ _ _ c.in_ok-s.ensures.number.grown c.in_ok-p.ensures.number.grown c.in_ok-o.ensures.number.grown) c.requires.graph
 
 pub returns-in_ok-number_name-in-Some-clause-number : goal.returns-in_ok-number_name-in-Some-clause-number

@@ -8,7 +8,7 @@ invariant-loop-i l = record {
   room : length l.raws ≤ vec_capacity l.quads;
   count : vec_len l.quads ≡ l.i;
   state : l.new.state ≡ l.dict.state;
-  subject : IfSome l.subject (IsKnownNode l.dict.texts l.new.texts l.before.subject.now);
-  graph : IfSome l.graph (IsKnownName l.dict.texts l.new.texts l.before.graph);
+  subject : IfSome l.last.subject (IsKnownNode l.dict.texts l.new.texts l.last.raw.subject.now);
+  graph : IfSome l.last.graph (IsKnownName l.dict.texts l.new.texts l.last.raw.graph);
   numbered : AreNumbersOfAll l.dict.texts l.new.texts (take l.i l.raws) l.quads.items;
 }
