@@ -239,7 +239,7 @@ def causes_of_pair(sign, one, other, sense):
     if not one[0] == other[0] == "literal":
         return [("name", None)]
     floats = [it[2] in FLOATS for it in (one, other)]
-    if (sign, sense) in (("=", 1), ("!=", -1)) and one[1] != other[1] and not any(floats):
+    if (sign, sense) in (("=", 1), ("!=", -1)) and (one[3] and other[3] or one[1] != other[1] and not any(floats)):
         return []
     if one[3] or other[3]:
         return [("tag", None)]

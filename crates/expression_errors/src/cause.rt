@@ -280,9 +280,26 @@ fn has_same_form(left: &Term, right: &Term) -> bool {
     }
 }
 
-/// Returns whether the writer of a query expects two terms whose equality is an error to differ:
-/// their lexical forms differ, and neither is a float. So an error of `=` costs nothing that `false`
-/// would not cost.
-pub(crate) fn are_expected_to_differ(left: &Term, right: &Term) -> bool {
+/// Returns whether a term is a literal with a language tag.
+fn has_tag(term: &Term) -> bool
+    ensures tag { result ≡ has_tag term.now }
+{
+    match term {
+        Term::Literal { tag, .. } => tag.is_some(),
+        Term::Iri(_) | Term::Blank(_) => false,
+    }
+}
+
+/// Returns whether the writer of a query expects two terms whose equality is an error to differ: both
+/// have a language tag, or their lexical forms differ and neither is a float. So an error of `=` costs
+/// nothing that `false` would not cost.
+pub(crate) fn are_expected_to_differ(left: &Term, right: &Term) -> bool
+    ensures tagged { has_tag left.now ≡ true → has_tag right.now ≡ true → result ≡ true }
+    ensures float { is_float left.now ≡ true → result ≡ false }
+    ensures other_float { is_float right.now ≡ true → result ≡ false }
+{
+    if has_tag(left) && has_tag(right) {
+        return true;
+    }
     !is_float(left) && !is_float(right) && !has_same_form(left, right)
 }
