@@ -9,3 +9,4 @@ pub mod QuadLaws
 pub mod TermListLaws
 pub mod TermSteps
 pub mod SealLaws
+pub mod RemainderLaws
