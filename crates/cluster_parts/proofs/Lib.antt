@@ -8,3 +8,5 @@ pub mod PartSteps
 pub mod QuadLaws
 pub mod TermListLaws
 pub mod TermSteps
+pub mod SealLaws
+pub mod RemainderLaws

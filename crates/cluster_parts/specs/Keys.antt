@@ -1,5 +1,6 @@
 -- The key by which quads are split (choices of this project).
-use Rattle.std.specs.Prelude.{ℕ, Option}
+use Rattle.std.specs.Prelude.{ℕ, ◌%◌, Option}
+use Rattle.std.specs.Option.{option_map}
 use Rattle.rdf_core.specs.QuadParts.{QuadParts}
 use Rattle.cluster_parts.specs.Hash.{graph_key, subject_key}
 use Rattle.cluster_parts.specs.declared.key_splits.QuadKey.{QuadKey}
@@ -8,3 +9,7 @@ use Rattle.cluster_parts.specs.declared.key_splits.QuadKey.TheVariants.{Subject,
 abbrev pub key_of : QuadKey → QuadParts → Option ℕ
 key_of Subject q = subject_key q
 key_of Graph q = graph_key q
+
+-- the number of the partition that has a key; only private clauses use this definition
+abbrev pub reduced_key : ℕ → (QuadParts → Option ℕ) → QuadParts → Option ℕ
+reduced_key partitions key q = option_map (λ h. h % partitions) (key q)

@@ -1,5 +1,5 @@
 -- What the laws of this crate say: the counts of the partitions are those of the whole document (laws of this project).
-use Rattle.std.specs.Prelude.{◌≡◌, ◌⊎◌, ℕ, zero, suc, ◌+◌, ◌<◌, ◌==◌, List, [], ◌∷◌, ◌++◌, map, length, get_or, if◌then◌else◌, ⊤}
+use Rattle.std.specs.Prelude.{◌≡◌, ◌⊎◌, ℕ, zero, suc, ◌+◌, ◌<◌, ◌^◌, ◌==◌, List, [], ◌∷◌, ◌++◌, map, length, get_or, if◌then◌else◌, ⊤}
 use Rattle.std.specs.List.{AllZip}
 use Rattle.rdf_core.specs.QuadParts.{QuadParts}
 use Rattle.nquads_core.specs.Lines.{lines, EndsLine}
@@ -10,7 +10,7 @@ use Rattle.algebra_model.specs.Bag.{without_repeats}
 use Rattle.algebra_model.specs.Dataset.{names}
 use Rattle.quad_index.specs.Laws.{same_parts}
 use Rattle.cluster_parts.specs.Hash.{quad_hash}
-use Rattle.cluster_parts.specs.Seal.{joined_texts}
+use Rattle.cluster_parts.specs.Seal.{all_sealed, joined_texts}
 use Rattle.cluster_parts.specs.Parts.{hashes_in, quad_document, quads_in, terms_in, texts_below}
 use Rattle.cluster_parts.specs.Repeated.{numbers_of, repeated_in, single}
 use Rattle.cluster_parts.specs.Terms.{term_lines}
@@ -103,3 +103,13 @@ TermsAreKept =
     → length kept ≡ length quads
     → ((b : ℕ) → b < length quads → IsKept (block_terms (get_or quads b [])) (marks_of partitions firsts b) (get_or kept b []))
     → joined_texts kept ≡ term_lines (first_appearances (terms_of (joined quads)))
+
+-- Bytes are the sealed texts of one list only.
+abbrev pub SealsAreUnique : Type 0
+SealsAreUnique = (texts others : List (List ℕ)) → length (all_sealed texts) < 2 ^ 64 → all_sealed texts ≡ all_sealed others → texts ≡ others
+
+-- The same of a known number of sealed texts, and of what follows them.
+abbrev pub FrontsAreUnique : Type 0
+FrontsAreUnique = (texts others : List (List ℕ)) (rest rest' : List ℕ) → length texts ≡ length others
+    → length (all_sealed texts ++ rest) < 2 ^ 64 → all_sealed texts ++ rest ≡ all_sealed others ++ rest'
+    → (texts ≡ others) × (rest ≡ rest')

@@ -1,5 +1,5 @@
 //! The quads of a block by subject or by graph name.
-ghost use Rattle.std.specs.Prelude.{◌≡◌, ◌<◌, ◌++◌, ℕ, List, Option, Some, get_or, length, map, IfErr, IfOk, OnOk};
+ghost use Rattle.std.specs.Prelude.{◌≡◌, ◌<◌, ◌%◌, ◌++◌, ℕ, List, Option, Some, get_or, length, map, IfErr, IfOk, OnOk};
 ghost use Rattle.std.specs.Option.{option_map, ForSome};
 ghost use Rattle.rdf_core.specs.QuadParts.{QuadParts};
 ghost use Rattle.nquads_core.specs.Lines.{lines};
@@ -7,7 +7,7 @@ ghost use Rattle.nquads_core.specs.Pieces.{HaveStatements, IsFirstMalformed};
 ghost use Rattle.nquads_core.specs.declared.fault.PieceFault.TheVariants.{BadLine};
 ghost use Rattle.dict_core.specs.NumQuad.{AreBelow, IsBelow};
 ghost use Rattle.cluster_parts.specs.Hash.{graph_key, hash, subject_key};
-ghost use Rattle.cluster_parts.specs.Keys.{key_of};
+ghost use Rattle.cluster_parts.specs.Keys.{key_of, reduced_key};
 ghost use Rattle.cluster_parts.specs.Numbered.{AreQuadsOf};
 ghost use Rattle.cluster_parts.specs.Output.{keyed_parts};
 
@@ -120,6 +120,51 @@ fn keys_of(
     }
 }
 
+/// Returns the number of the partition that has a key.
+fn reduced(key: Option<u64>, partitions: u64) -> Option<u64>
+    requires some { 0 < partitions }
+    ensures value { result ≡ option_map (λ h. h % partitions) key }
+{
+    match key {
+        Some(key) => Some(key % partitions),
+        None => None,
+    }
+}
+
+/// Returns the numbers of the partitions that have these keys.
+fn all_reduced(
+    alloc: Global,
+    keys: &[Option<u64>],
+    partitions: u64,
+) -> Result<Vec<Option<u64>>, AllocError>
+    requires some { 0 < partitions }
+    ensures keys { IfOk result (λ made. made.items ≡ map (option_map (λ h. h % partitions)) keys.now) }
+{
+    let mut made = Vec::with_capacity(alloc, keys.len())?;
+    for key in keys {
+        made.push(reduced(*key, partitions))?;
+    }
+    Ok(made)
+}
+
+/// Returns the numbers of the partitions that have the quads of a block. They are keys, too: each partition has the same
+/// quads by them, and finds them without a division.
+fn reduced_keys_of(
+    alloc: Global,
+    block: &NumberedLines,
+    key: &QuadKey,
+    partitions: u64,
+) -> Result<Vec<Option<u64>>, AllocError>
+    requires read { (quads : List QuadParts) × AreQuadsOf quads block.now }
+    requires some { 0 < partitions }
+    ensures keys { IfOk result (λ keys. (quads : List QuadParts) → AreQuadsOf quads block.now
+        → keys.items ≡ map (reduced_key partitions (key_of key.now)) quads) }
+{
+    let keys = keys_of(alloc, block, key)?;
+    let made = all_reduced(alloc, keys.as_slice(), partitions)?;
+    Ok(made)
+}
+
 /// Returns the parts of a block that has been read.
 fn parts_by_key(
     alloc: Global,
@@ -132,7 +177,7 @@ fn parts_by_key(
     ensures parts { IfOk result (λ out. (quads : List QuadParts) → AreQuadsOf quads block.now
         → out.items ≡ keyed_parts (key_of key.now) partitions block.now.lines quads) }
 {
-    let keys = keys_of(alloc, block, key)?;
+    let keys = reduced_keys_of(alloc, block, key, partitions)?;
     let unkeyed = unkeyed_part(alloc, block, keys.as_slice())?;
     let mut out = Vec::new(alloc);
     push_sealed_number(alloc, &mut out, block.lines)?;

@@ -4,7 +4,7 @@ ghost use Rattle.std.specs.Option.{ForSome};
 ghost use Rattle.rdf_core.specs.QuadParts.{QuadParts};
 ghost use Rattle.dict_core.specs.NumQuad.{IsBelow};
 ghost use Rattle.cluster_parts.specs.Numbered.{AreQuadsOf, end_by_number, line_by_numbers, text_at};
-ghost use Rattle.cluster_parts.specs.Parts.{has_key, quad_document, quads_in, texts_below};
+ghost use Rattle.cluster_parts.specs.Parts.{has_key, is_in, quad_document, quads_in, texts_below};
 ghost use Rattle.cluster_parts.specs.Output.{quads_part};
 
 use crate::numbering::{NumberedLines, text_of};
@@ -50,13 +50,26 @@ fn push_quad(out: &mut Vec<u8>, texts: &TextDict, quad: &NumQuad) -> Result<(), 
     Ok(())
 }
 
-/// Returns whether the partition has the key.
+/// Returns whether the partition has the key. A key below the number of partitions needs no division.
+#[tactic(auto, using(crate::proofs::RemainderLaws::remainder_below))]
+fn is_in(partitions: u64, number: u64, key: u64) -> bool
+    requires some { 0 < partitions }
+    ensures value { result ≡ is_in partitions number key }
+{
+    if key < partitions {
+        key == number
+    } else {
+        key % partitions == number
+    }
+}
+
+/// Returns whether the partition has the key, if there is one.
 fn has_key(partitions: u64, number: u64, key: Option<u64>) -> bool
     requires some { 0 < partitions }
     ensures value { result ≡ has_key partitions number key }
 {
     match key {
-        Some(key) => key % partitions == number,
+        Some(key) => is_in(partitions, number, key),
         None => false,
     }
 }
