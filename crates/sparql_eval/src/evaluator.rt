@@ -35,7 +35,7 @@ use crate::mentions::may_mention;
 use crate::patterns::pattern_with;
 use crate::possible_graphs::possible_graphs;
 use crate::projections::project_of;
-use crate::separated::Tested;
+use crate::separated::{Tested, joins_around, places_around};
 use crate::tables::table;
 use crate::unions::union_of;
 use dict_core::Dict;
@@ -68,6 +68,11 @@ impl<'c, 'i, 'e, R: Threads + Wait, G: Gate + Sync> Evaluator<'c, 'i, 'e, R, G> 
             Some(counts) => counts.place(self.context.alloc, owner, expr),
             None => Place::none(),
         }
+    }
+
+    /// Returns the number of quads of the dataset.
+    fn quads(&self) -> usize {
+        self.index.quads() as usize
     }
 
     /// Evaluates a tree with the graph of this number active, or the default graph if it is None.
@@ -268,10 +273,11 @@ impl<'c, 'i, 'e, R: Threads + Wait, G: Gate + Sync> Evaluator<'c, 'i, 'e, R, G> 
             (Filter (expression_of condition.now) (algebra_of inner.now))) dict r.1) }
         ensures one_worker { HasOneWorker self.now.context.how.now → IfErr result (λ fault. fault ≡ Memory) }
     {
-        self.solve_filter_where(dict, active, inner, condition, &[])
+        self.solve_filter_where(dict, active, inner, condition, &[], None)
     }
 
-    /// Evaluates a Filter of which only the solutions that fit are needed, and its input.
+    /// Evaluates a Filter of which only the solutions that fit are needed, and its input. The filter around
+    /// it, if there is one, is tested on these solutions later.
     #[cycle(solve)]
     fn solve_filter_where(
         &self,
@@ -280,6 +286,7 @@ impl<'c, 'i, 'e, R: Threads + Wait, G: Gate + Sync> Evaluator<'c, 'i, 'e, R, G> 
         inner: &Operator,
         condition: &Expr,
         pairs: &[Equality],
+        outer: Option<&Tested<'_>>,
     ) -> Result<(Rows, Dict), EvalFault>
         requires index { AreBelow (length dict) self.now.index.now }
         requires active { ForSome active (λ g. g < length dict) }
@@ -292,13 +299,16 @@ impl<'c, 'i, 'e, R: Threads + Wait, G: Gate + Sync> Evaluator<'c, 'i, 'e, R, G> 
         ensures one_worker { HasOneWorker self.now.context.how.now → IfErr result (λ fault. fault ≡ Memory) }
     {
         let all = with_equalities(self.context.alloc, condition, pairs)?;
+        let around = places_around(self.context.alloc, pairs, outer)?;
+        let around = around.as_slice();
         let place = self.place(Owner::Filter, condition);
         let tested = Tested {
             condition,
             place,
-            is_last: pairs.is_empty(),
+            joins: joins_around(pairs, outer),
+            around,
+            quads: self.quads(),
         };
-        tested.note_filter(pairs, inner);
         let (rows, dict) = self.solve_where(dict, active, inner, all.as_slice(), &tested)?;
         filter_with(&self.context, dict, &rows, condition, place)
     }
@@ -335,8 +345,7 @@ impl<'c, 'i, 'e, R: Threads + Wait, G: Gate + Sync> Evaluator<'c, 'i, 'e, R, G> 
                 self.solve_join_where(dict, active, left, right, pairs, tested)
             }
             Operator::Filter { condition, inner } => {
-                tested.note_filter(pairs, inner);
-                self.solve_filter_where(dict, active, inner, condition, pairs)
+                self.solve_filter_where(dict, active, inner, condition, pairs, Some(tested))
             }
             _ => self.solve(dict, active, tree),
         }
@@ -848,7 +857,9 @@ impl<'c, 'i, 'e, R: Threads + Wait, G: Gate + Sync> Evaluator<'c, 'i, 'e, R, G> 
         let tested = Tested {
             condition,
             place,
-            is_last: true,
+            joins: 0,
+            around: &[],
+            quads: self.quads(),
         };
         let (solved, dict) = self.solve_each_where(
             dict,

@@ -49,6 +49,7 @@ mod keyed_rows;
 mod mentions;
 mod numbering;
 mod operator_result;
+mod pair_counts;
 mod patterns;
 mod piece_values;
 mod possible_graphs;
