@@ -12,7 +12,7 @@ use crate::joins::join_of;
 use crate::keyed_joins::joined_by_keys;
 use crate::keyed_rows::join_keys;
 use crate::operator_result::with_dict;
-use crate::separated::{Tested, count_separated, is_joined_whole};
+use crate::separated::{Tested, count_separated, is_joined_whole, note_left_out};
 use dict_core::Dict;
 use piece_pool::Gate;
 use row_core::Rows;
@@ -23,7 +23,7 @@ use std::thread::Threads;
 
 /// Joins rows of which only the pairs that fit are needed. If one of the equalities has a variable
 /// of each side, rows with different keys are not paired. The errors of the condition over these are
-/// counted. The dictionary is returned unchanged.
+/// counted, or it is noted that they are not. The dictionary is returned unchanged.
 pub(crate) fn join_where<R: Threads + Wait, G: Gate + Sync>(
     context: &Context<R, G>,
     state: RandomState,
@@ -43,10 +43,11 @@ pub(crate) fn join_where<R: Threads + Wait, G: Gate + Sync>(
 {
     let keys = join_keys(context.alloc, &left, &right, pairs)?;
     let keys = keys.as_slice();
-    if is_joined_whole(&dict, &left, &right, keys, tested) {
+    if is_joined_whole(context.alloc, &dict, &left, &right, keys, tested) {
         return join_of(context, state, dict, left, right);
     }
     count_separated(context.alloc, &dict, &left, &right, keys, tested);
     let made = joined_by_keys(context, state, &dict, &left, &right, keys);
+    note_left_out(context.alloc, &dict, &left, &right, keys, tested, &made);
     with_dict(made, dict)
 }

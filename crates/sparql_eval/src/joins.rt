@@ -15,7 +15,7 @@ use crate::keyed_joins::left_joined_by_keys;
 use crate::keyed_rows::join_keys;
 use crate::operator_result::with_dict;
 use crate::read_row::ReadRow;
-use crate::separated::{Tested, count_separated};
+use crate::separated::{Tested, count_separated, is_joined_whole};
 use dict_core::Dict;
 use expression_errors::{Place, test_counted};
 use piece_pool::Gate;
@@ -241,15 +241,17 @@ fn left_joined<R: Threads + Wait, G: Gate + Sync>(
 {
     let pairs = equalities(context.alloc, condition)?;
     let keys = join_keys(context.alloc, left, right, pairs.as_slice())?;
-    if keys.is_empty() {
-        return left_joined_by_rows(context, state, dict, left, right, condition, place);
-    }
     let keys = keys.as_slice();
     let tested = Tested {
         condition,
         place,
-        is_last: true,
+        joins: 0,
+        around: &[],
+        quads: 0,
     };
+    if is_joined_whole(context.alloc, dict, left, right, keys, &tested) {
+        return left_joined_by_rows(context, state, dict, left, right, condition, place);
+    }
     count_separated(context.alloc, dict, left, right, keys, &tested);
     left_joined_by_keys(context, state, dict, left, right, keys, &tested)
 }

@@ -22,7 +22,8 @@
 //! Reading order: `appending`, `unions`, `projections`, `distinctness` (rows alone); `operator_result` (rows
 //! with a dictionary); `numbering`, `tables` (terms added to the dictionary); `read_row`, `filters`,
 //! `piece_values`, `values`, `extensions` (expressions); `patterns`, `graphs` (the index); `joins`
-//! (two lists of rows); `mentions`, `closed`, `forms`, `evaluator`, `evaluation` (a plan). Tests: `evaluation` of the crate query_tests.
+//! (two lists of rows); `mentions`, `closed`, `forms`, `evaluator`, `two_inputs`, `trees_to_join`, `filtered_trees`,
+//! `named_graphs`, `across_graphs`, `evaluation` (a plan). Tests: `evaluation` of the crate query_tests.
 //!
 //! ```text
 //! { ?s p ?o OPTIONAL { ?o p ?z } }  over  x p y, y p z  =  (?s: x, ?o: y, ?z: z), (?s: y, ?o: z)
@@ -32,6 +33,7 @@
 //! Not guaranteed: the order of the rows, and which numbers computed terms get.
 #![tactic(auto)]
 
+mod across_graphs;
 mod appending;
 mod closed;
 mod distinctness;
@@ -39,6 +41,7 @@ mod equalities;
 mod evaluation;
 mod evaluator;
 mod extensions;
+mod filtered_trees;
 mod filters;
 mod fitted_joins;
 mod forms;
@@ -47,8 +50,10 @@ mod joins;
 mod keyed_joins;
 mod keyed_rows;
 mod mentions;
+mod named_graphs;
 mod numbering;
 mod operator_result;
+mod pair_counts;
 mod patterns;
 mod piece_values;
 mod possible_graphs;
@@ -58,6 +63,8 @@ mod separated;
 mod separated_classes;
 mod separated_pairs;
 mod tables;
+mod trees_to_join;
+mod two_inputs;
 mod unions;
 mod values;
 

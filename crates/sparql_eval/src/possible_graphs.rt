@@ -26,7 +26,11 @@ pub(crate) fn possible_graphs(
 }
 
 /// Returns the number that each row binds the variable to, or None if a row leaves it unbound.
-fn numbers_at(alloc: Global, rows: &Rows, variable: usize) -> Result<Option<Vec<u64>>, AllocError>
+pub(crate) fn numbers_at(
+    alloc: Global,
+    rows: &Rows,
+    variable: usize,
+) -> Result<Option<Vec<u64>>, AllocError>
     ensures numbers { IfOk result (λ found. MatchOption found (Unit {0})
         (λ v. AreNumbersAt rows.now.rows variable v.items)) }
 {

@@ -4,11 +4,12 @@
 //! pairs follows from the keys of both sides.
 use crate::equalities::Equality;
 use crate::keyed_rows::key_number;
-use crate::separated_pairs::{Pairs, Side};
+use crate::pair_counts::{all_pairs, equal_pairs};
+use crate::separated_pairs::{PAIRS_AT_LEAST, Pairs, Side};
 use expression_errors::TermClass;
 use std::alloc::AllocError;
 
-/// The number of classes of one side. Rows of further classes are not counted.
+/// The number of classes of one side. Rows of further classes are not counted by classes.
 const MOST_CLASSES: usize = 32;
 
 /// The rows whose terms have one class, and the first of them.
@@ -23,8 +24,14 @@ impl<'a> Pairs<'a> {
     /// Counts the pairs with different keys over which the condition is an error. The condition is the
     /// equality of the key.
     pub(crate) fn count_by_classes(&self, key: Equality) -> Result<(), AllocError> {
-        let lefts = self.classes(Side::Left, key)?;
-        let rights = self.classes(Side::Right, key)?;
+        let (lefts, has_lefts) = self.classes(Side::Left, key)?;
+        let (rights, has_rights) = self.classes(Side::Right, key)?;
+        if !has_lefts || !has_rights {
+            if all_pairs(self.left, self.right) <= PAIRS_AT_LEAST {
+                return self.count_one_by_one();
+            }
+            self.place.note_partial();
+        }
         for one in &lefts {
             for other in &rights {
                 if one.class.is_error_with(other.class) {
@@ -49,18 +56,16 @@ impl<'a> Pairs<'a> {
         Ok(())
     }
 
-    /// Returns the classes of the terms of a side.
-    fn classes(&self, side: Side, key: Equality) -> Result<Vec<ClassRows<'a>>, AllocError> {
+    /// Returns the classes of the terms of a side, and whether they are all.
+    fn classes(&self, side: Side, key: Equality) -> Result<(Vec<ClassRows<'a>>, bool), AllocError> {
         let mut found = Vec::new(self.alloc);
+        let mut are_all = true;
         for row in 0..self.len(side) {
             if let Some(number) = self.cell(side, row, side.variable(key)) {
-                let is_added = add_row(&mut found, TermClass::new(self.dict.term(number)), row)?;
-                if !is_added {
-                    self.place.note_partial();
-                }
+                are_all &= add_row(&mut found, TermClass::new(self.dict.term(number)), row)?;
             }
         }
-        Ok(found)
+        Ok((found, are_all))
     }
 
     /// Returns two rows with terms of these classes and different keys, if the first row of one of the
@@ -156,30 +161,4 @@ fn add_row<'a>(
         rows: 1,
     })?;
     Ok(true)
-}
-
-/// Returns the number of pairs of equal numbers. Both lists are sorted.
-fn equal_pairs(numbers: &[u64], others: &[u64]) -> u64 {
-    let mut pairs: u64 = 0;
-    let mut low: usize = 0;
-    let mut high: usize = 0;
-    for number in numbers {
-        low = first_from(others, low, *number);
-        high = match number.checked_add(1) {
-            Some(next) => first_from(others, high, next),
-            None => others.len(),
-        };
-        pairs = pairs.saturating_add(high.saturating_sub(low) as u64);
-    }
-    pairs
-}
-
-/// Returns the first place, from the given one on, of a number that is not below the given one.
-fn first_from(numbers: &[u64], from: usize, least: u64) -> usize {
-    for at in from..numbers.len() {
-        if numbers[at] >= least {
-            return at;
-        }
-    }
-    numbers.len()
 }

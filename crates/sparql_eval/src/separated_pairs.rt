@@ -4,6 +4,7 @@ ghost use Rattle.sparql_eval.specs.Numbered.{AreKnownAt, IsKnownCell, IsKnownRow
 
 use crate::equalities::{Equality, Operand, is_equality};
 use crate::keyed_rows::{bind_a_common_variable, key_number};
+use crate::pair_counts::{all_pairs, most_compatible};
 use crate::read_row::ReadRow;
 use dict_core::Dict;
 use expression_errors::{Place, count_rows};
@@ -88,11 +89,36 @@ impl<'a> Pairs<'a> {
         }
     }
 
-    /// Notes that nobody looks at the pairs with different keys.
-    pub(crate) fn note(&self) {
-        self.place.note_unseen();
-        if self.may_fail() {
-            self.place.note_partial();
+    /// Notes that nobody looks at the pairs with different keys, unless the `found` pairs are all. The
+    /// filters around this one do not look at them either. The condition of the outermost filter can only
+    /// be an error over such a pair if an equality is.
+    pub(crate) fn note(&self, around: &[Place<'_>], found: usize) {
+        let fails = self.may_fail();
+        let is_partial = fails || !around.is_empty();
+        if self.are_all(found, is_partial) {
+            return;
+        }
+        note_unseen(self.place, is_partial);
+        let mut is_partial = fails;
+        for place in around {
+            note_unseen(*place, is_partial);
+            is_partial = true;
+        }
+    }
+
+    /// Returns whether there are no more compatible pairs than these. If there are many, this is found out
+    /// only where it matters.
+    fn are_all(&self, found: usize, matters: bool) -> bool {
+        let pairs = all_pairs(self.left, self.right);
+        if found >= pairs {
+            return true;
+        }
+        if !matters && pairs > PAIRS_AT_LEAST {
+            return false;
+        }
+        match most_compatible(self.alloc, self.left, self.right) {
+            Ok(most) => found >= most,
+            Err(_) => false,
         }
     }
 
@@ -123,7 +149,7 @@ impl<'a> Pairs<'a> {
     }
 
     /// Counts the pairs over which an equality may be an error one by one, up to a limit.
-    fn count_one_by_one(&self) -> Result<(), AllocError> {
+    pub(crate) fn count_one_by_one(&self) -> Result<(), AllocError> {
         let rows = self.left.len().saturating_add(self.right.len());
         let most = rows.saturating_mul(PAIRS_A_ROW).max(PAIRS_AT_LEAST);
         let seen = self.count_side(Side::Left, 0, most)?;
@@ -250,6 +276,14 @@ impl<'a> Pairs<'a> {
             Side::Left => cell_of(self.dict, self.left, row, variable),
             Side::Right => cell_of(self.dict, self.right, row, variable),
         }
+    }
+}
+
+/// Notes that there are rows that nobody looked at, and whether the expression may be an error over them.
+fn note_unseen(place: Place<'_>, is_partial: bool) {
+    place.note_unseen();
+    if is_partial {
+        place.note_partial();
     }
 }
 

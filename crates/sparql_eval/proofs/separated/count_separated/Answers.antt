@@ -6,9 +6,3 @@ invariant_of-pairs c = record {
   known_left = rows_known_at c.args.dict.now c.args.left.now.rows c.requires.known_left;
   known_right = rows_known_at c.args.dict.now c.args.right.now.rows c.requires.known_right;
 }
-
-pub invariant_of-pairs-else-tested : goal.invariant_of-pairs-else-tested
-invariant_of-pairs-else-tested c = record {
-  known_left = rows_known_at c.args.dict.now c.args.left.now.rows c.requires.known_left;
-  known_right = rows_known_at c.args.dict.now c.args.right.now.rows c.requires.known_right;
-}

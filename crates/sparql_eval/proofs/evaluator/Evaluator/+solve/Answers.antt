@@ -947,7 +947,7 @@ solve_where-solve_filter_where-requires-clause-active g t c κs within = c.requi
 
 pub solve_where-solve_filter_where-requires-clause-within : goal.solve_where-solve_filter_where-requires-clause-within
 solve_where-solve_filter_where-requires-clause-within g t c κs within =
-    subst (λ (T : Operator). is_within c.args.self.now.width (algebra_of T) ≡ true) (sym c.deref-in-Filter-2.ensures) (filter_within c.args.self.now.width c.in-Filter.condition c.in-Filter.inner c.args.tree.now c.in-Filter.is c.requires.within)
+    subst (λ (T : Operator). is_within c.args.self.now.width (algebra_of T) ≡ true) (sym c.deref-in-Filter.ensures) (filter_within c.args.self.now.width c.in-Filter.condition c.in-Filter.inner c.args.tree.now c.in-Filter.is c.requires.within)
 
 pub solve_where-solve-requires-clause-index : goal.solve_where-solve-requires-clause-index
 solve_where-solve-requires-clause-index g t c κs within = c.requires.index
@@ -985,15 +985,15 @@ pub solve_where-returns-in-Filter-clause-evaluated : goal.solve_where-returns-in
 solve_where-returns-in-Filter-clause-evaluated g t c =
     let s = c.args.self.now in
     let S : Operator → List (Solution Term) = λ tree. tree_solutions c.args.dict s.index.now s.width c.args.active tree in
-    where_whole c.args.pairs.now c.args.dict s.width c.solve_filter_where.result (filter (holds (expression_of c.in-Filter.condition)) (S c.deref-in-Filter-2.result.now)) (S c.args.tree.now)
-    (ap S c.in-Filter.is ∙ filter_tree c.args.dict s.index.now s.width c.args.active c.in-Filter.condition c.in-Filter.inner ∙ (λ i. filter (holds (expression_of c.in-Filter.condition)) (S ((sym c.deref-in-Filter-2.ensures) i))))
+    where_whole c.args.pairs.now c.args.dict s.width c.solve_filter_where.result (filter (holds (expression_of c.in-Filter.condition)) (S c.deref-in-Filter.result.now)) (S c.args.tree.now)
+    (ap S c.in-Filter.is ∙ filter_tree c.args.dict s.index.now s.width c.args.active c.in-Filter.condition c.in-Filter.inner ∙ (λ i. filter (holds (expression_of c.in-Filter.condition)) (S ((sym c.deref-in-Filter.ensures) i))))
     c.solve_filter_where.ensures.evaluated
 
 pub solve_where-returns-in-Filter-clause-needed : goal.solve_where-returns-in-Filter-clause-needed
 solve_where-returns-in-Filter-clause-needed g t c =
     let s = c.args.self.now in
-    takes_as c.args.dict s.index.now s.width c.args.active c.solve_filter_where.result (algebra_of c.args.tree.now) (algebra.Filter (expression_of c.in-Filter.condition) (algebra_of c.deref-in-Filter-2.result.now))
-    (ap algebra_of c.in-Filter.is ∙ filter_denotes c.in-Filter.condition c.in-Filter.inner ∙ (λ i. algebra.Filter (expression_of c.in-Filter.condition) (algebra_of ((sym c.deref-in-Filter-2.ensures) i))))
+    takes_as c.args.dict s.index.now s.width c.args.active c.solve_filter_where.result (algebra_of c.args.tree.now) (algebra.Filter (expression_of c.in-Filter.condition) (algebra_of c.deref-in-Filter.result.now))
+    (ap algebra_of c.in-Filter.is ∙ filter_denotes c.in-Filter.condition c.in-Filter.inner ∙ (λ i. algebra.Filter (expression_of c.in-Filter.condition) (algebra_of ((sym c.deref-in-Filter.ensures) i))))
     c.solve_filter_where.ensures.needed
 
 pub solve_where-returns-in-Filter-clause-one_worker : goal.solve_where-returns-in-Filter-clause-one_worker

@@ -1,5 +1,5 @@
 use Rattle.sparql_eval.proofs.ReadingLaws.{rows_known_at}
-use Rattle.sparql_eval.proofs.separated.is_joined_whole.Goals as goal
+use Rattle.sparql_eval.proofs.separated.may_fail_at_all.Goals as goal
 
 pub may_fail-requires : goal.may_fail-requires
 may_fail-requires c = record { known = rows_known_at c.args.dict.now c.args.left.now.rows c.requires.known_left }

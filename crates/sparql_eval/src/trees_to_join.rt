@@ -1,0 +1,154 @@
+//! Trees that are joined with rows. Of GRAPH with a variable, only the graphs are needed that the rows name.
+ghost use Rattle.std.specs.Prelude.{◌≡◌, ◌<◌, [], true, length, IfErr, IfOk};
+ghost use Rattle.std.specs.Option.{ForSome};
+ghost use Rattle.rdf_core.specs.Equality.{term_eq};
+ghost use Rattle.algebra_model.specs.Algebra.{each_graph, is_name_below, is_within};
+ghost use Rattle.algebra_model.specs.Operators.{join};
+ghost use Rattle.dict_core.specs.NumQuad.{AreBelow};
+ghost use Rattle.row_pieces.specs.How.{HasOneWorker};
+ghost use Rattle.row_pieces.specs.declared.fault.EvalFault.TheVariants.{Memory};
+ghost use Rattle.sparql_algebra.specs.AlgebraOf.{algebra_of, graph_name_of};
+ghost use Rattle.sparql_eval.specs.Computed.{TakesOnly};
+ghost use Rattle.sparql_eval.specs.Evaluated.{AreKnown, solutions_of};
+ghost use Rattle.sparql_eval.specs.Fitting.{IsEvaluatedWhere};
+ghost use Rattle.sparql_eval.specs.Possible.{ArePossibleIn, may_join, meets_some};
+ghost use Rattle.sparql_eval.specs.TreeSolutions.{Needed, NeededIn, TakesIn, graph_solutions, tree_solutions};
+
+use crate::evaluator::Evaluator;
+use crate::forms::is_empty_pattern;
+use crate::joins::join_of;
+use crate::possible_graphs::possible_graphs;
+use dict_core::Dict;
+use piece_pool::Gate;
+use row_core::Rows;
+use row_pieces::EvalFault;
+use sparql_algebra::{GraphName, Operator};
+use std::sync::Wait;
+use std::thread::Threads;
+
+impl<'c, 'i, 'e, R: Threads + Wait, G: Gate + Sync> Evaluator<'c, 'i, 'e, R, G> {
+    /// Evaluates a tree that is then joined with these rows. Only the solutions are needed that are
+    /// compatible with one of the rows.
+    #[cycle(solve)]
+    pub(crate) fn solve_to_join(
+        &self,
+        dict: Dict,
+        active: Option<u64>,
+        others: &Rows,
+        tree: &Operator,
+    ) -> Result<(Rows, Dict), EvalFault>
+        requires index { AreBelow (length dict) self.now.index.now }
+        requires active { ForSome active (λ g. g < length dict) }
+        requires known_others { AreKnown dict others.now }
+        requires within { is_within self.now.width (algebra_of tree.now) ≡ true }
+        ensures evaluated { IfOk result (λ r. IsEvaluatedWhere dict self.now.width
+            (may_join [] (solutions_of dict others.now))
+            (tree_solutions dict self.now.index.now self.now.width active tree.now) r.0 r.1) }
+        ensures needed { IfOk result (λ r. TakesOnly (Needed dict self.now.index.now self.now.width active
+            (algebra_of tree.now)) dict r.1) }
+        ensures one_worker { HasOneWorker self.now.context.how.now → IfErr result (λ fault. fault ≡ Memory) }
+    {
+        match tree {
+            Operator::Graph { name, inner } => self.solve_possible(dict, others, name, inner),
+            Operator::Join { left, right } => {
+                let (rows, dict) = self.solve_to_join(dict, active, others, left)?;
+                if is_empty_pattern(left) {
+                    self.solve_join_next(dict, active, rows, others, right)
+                } else {
+                    self.solve_join(dict, active, rows, right)
+                }
+            }
+            _ => self.solve(dict, active, tree),
+        }
+    }
+
+    /// Joins rows with the solutions of a tree, which are then joined with other rows. Only the pairs
+    /// are needed that are compatible with one of the other rows.
+    #[cycle(solve)]
+    fn solve_join_next(
+        &self,
+        dict: Dict,
+        active: Option<u64>,
+        left: Rows,
+        others: &Rows,
+        right: &Operator,
+    ) -> Result<(Rows, Dict), EvalFault>
+        requires index { AreBelow (length dict) self.now.index.now }
+        requires active { ForSome active (λ g. g < length dict) }
+        requires same_width { left.width ≡ self.now.width }
+        requires known_left { AreKnown dict left }
+        requires known_others { AreKnown dict others.now }
+        requires within { is_within self.now.width (algebra_of right.now) ≡ true }
+        ensures evaluated { IfOk result (λ r. IsEvaluatedWhere dict left.width
+            (may_join [] (solutions_of dict others.now))
+            (join term_eq (solutions_of dict left)
+            (tree_solutions dict self.now.index.now self.now.width active right.now)) r.0 r.1) }
+        ensures needed { IfOk result (λ r. TakesOnly (Needed dict self.now.index.now self.now.width active
+            (algebra_of right.now)) dict r.1) }
+        ensures one_worker { HasOneWorker self.now.context.how.now → IfErr result (λ fault. fault ≡ Memory) }
+    {
+        let (right, dict) = self.solve_to_join(dict, active, others, right)?;
+        join_of(&self.context, self.state, dict, left, right)
+    }
+
+    /// Evaluates a GRAPH that is then joined with these rows. If its name is a variable that all rows
+    /// bind, only the graphs that they name are needed.
+    #[cycle(solve)]
+    pub(crate) fn solve_possible(
+        &self,
+        dict: Dict,
+        others: &Rows,
+        name: &GraphName,
+        inner: &Operator,
+    ) -> Result<(Rows, Dict), EvalFault>
+        requires index { AreBelow (length dict) self.now.index.now }
+        requires name { is_name_below self.now.width (graph_name_of name.now) ≡ true }
+        requires known_others { AreKnown dict others.now }
+        requires within { is_within self.now.width (algebra_of inner.now) ≡ true }
+        ensures evaluated { IfOk result (λ r. IsEvaluatedWhere dict self.now.width
+            (meets_some term_eq (solutions_of dict others.now))
+            (graph_solutions dict self.now.index.now self.now.width (graph_name_of name.now)
+            inner.now) r.0 r.1) }
+        ensures needed { IfOk result (λ r. TakesOnly
+            (NeededIn dict self.now.index.now self.now.width (graph_name_of name.now)
+            (algebra_of inner.now)) dict r.1) }
+        ensures one_worker { HasOneWorker self.now.context.how.now → IfErr result (λ fault. fault ≡ Memory) }
+    {
+        if let GraphName::Variable(variable) = name {
+            let graphs = self.index.graphs();
+            let found = possible_graphs(self.context.alloc, others, *variable, graphs)?;
+            if let Some(found) = found {
+                return self.solve_found(dict, others, *variable, found, inner);
+            }
+        }
+        self.solve_graph(dict, name, inner)
+    }
+
+    /// Evaluates a tree in the graphs that the rows name, and joins the rows of a graph with the
+    /// variable bound to its name.
+    #[cycle(solve)]
+    fn solve_found(
+        &self,
+        dict: Dict,
+        others: &Rows,
+        variable: usize,
+        found: Vec<u64>,
+        inner: &Operator,
+    ) -> Result<(Rows, Dict), EvalFault>
+        requires index { AreBelow (length dict) self.now.index.now }
+        requires variable { variable < self.now.width }
+        requires known_others { AreKnown dict others.now }
+        requires found { ArePossibleIn self.now.index.now others.now.rows variable found.items }
+        requires within { is_within self.now.width (algebra_of inner.now) ≡ true }
+        ensures evaluated { IfOk result (λ r. IsEvaluatedWhere dict self.now.width
+            (meets_some term_eq (solutions_of dict others.now))
+            (graph_solutions dict self.now.index.now self.now.width (each_graph variable)
+            inner.now) r.0 r.1) }
+        ensures needed { IfOk result (λ r. TakesIn dict self.now.index.now
+            self.now.width variable (algebra_of inner.now) r.1) }
+        ensures one_worker { HasOneWorker self.now.context.how.now → IfErr result (λ fault. fault ≡ Memory) }
+    {
+        let _distinct = dict.len();
+        self.solve_each(dict, variable, found.as_slice(), inner)
+    }
+}

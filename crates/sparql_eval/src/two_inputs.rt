@@ -1,0 +1,140 @@
+//! Operators with two inputs. The rows of the left input are there already, and the tree of the right one
+//! is evaluated here.
+ghost use Rattle.std.specs.Prelude.{◌≡◌, ◌<◌, ◌++◌, true, length, IfErr, IfOk};
+ghost use Rattle.std.specs.Option.{ForSome};
+ghost use Rattle.rdf_core.specs.Equality.{term_eq};
+ghost use Rattle.algebra_model.specs.Algebra.{is_within};
+ghost use Rattle.algebra_model.specs.Expression.{holds};
+ghost use Rattle.algebra_model.specs.Operators.{join, left_join, minus};
+ghost use Rattle.dict_core.specs.NumQuad.{AreBelow};
+ghost use Rattle.row_pieces.specs.How.{HasOneWorker};
+ghost use Rattle.row_pieces.specs.declared.fault.EvalFault.TheVariants.{Memory};
+ghost use Rattle.expression_values.specs.ExpressionOf.{expression_of};
+ghost use Rattle.sparql_algebra.specs.AlgebraOf.{algebra_of};
+ghost use Rattle.sparql_eval.specs.Computed.{TakesOnly};
+ghost use Rattle.sparql_eval.specs.Evaluated.{AreKnown, IsEvaluated, solutions_of};
+ghost use Rattle.sparql_eval.specs.TreeSolutions.{Needed, tree_solutions};
+
+use crate::evaluator::Evaluator;
+use crate::joins::{join_of, left_join_with, minus_with};
+use crate::unions::union_of;
+use dict_core::Dict;
+use expression_errors::Owner;
+use piece_pool::Gate;
+use row_core::Rows;
+use row_pieces::EvalFault;
+use sparql_algebra::{Expr, Operator};
+use std::sync::Wait;
+use std::thread::Threads;
+
+impl<'c, 'i, 'e, R: Threads + Wait, G: Gate + Sync> Evaluator<'c, 'i, 'e, R, G> {
+    /// Joins rows with the solutions of a tree.
+    #[cycle(solve)]
+    pub(crate) fn solve_join(
+        &self,
+        dict: Dict,
+        active: Option<u64>,
+        left: Rows,
+        right: &Operator,
+    ) -> Result<(Rows, Dict), EvalFault>
+        requires index { AreBelow (length dict) self.now.index.now }
+        requires active { ForSome active (λ g. g < length dict) }
+        requires same_width { left.width ≡ self.now.width }
+        requires known_left { AreKnown dict left }
+        requires within { is_within self.now.width (algebra_of right.now) ≡ true }
+        ensures evaluated { IfOk result (λ r. IsEvaluated dict left.width
+            (join term_eq (solutions_of dict left)
+            (tree_solutions dict self.now.index.now self.now.width active right.now)) r.0 r.1) }
+        ensures needed { IfOk result (λ r. TakesOnly (Needed dict self.now.index.now self.now.width active
+            (algebra_of right.now)) dict r.1) }
+        ensures one_worker { HasOneWorker self.now.context.how.now → IfErr result (λ fault. fault ≡ Memory) }
+    {
+        let (right, dict) = self.solve_to_join(dict, active, &left, right)?;
+        join_of(&self.context, self.state, dict, left, right)
+    }
+
+    /// Applies LeftJoin to rows and the solutions of a tree.
+    #[cycle(solve)]
+    pub(crate) fn solve_left_join(
+        &self,
+        dict: Dict,
+        active: Option<u64>,
+        left: Rows,
+        right: &Operator,
+        condition: &Expr,
+    ) -> Result<(Rows, Dict), EvalFault>
+        requires index { AreBelow (length dict) self.now.index.now }
+        requires active { ForSome active (λ g. g < length dict) }
+        requires same_width { left.width ≡ self.now.width }
+        requires known_left { AreKnown dict left }
+        requires within { is_within self.now.width (algebra_of right.now) ≡ true }
+        ensures evaluated { IfOk result (λ r. IsEvaluated dict left.width
+            (left_join term_eq (holds (expression_of condition.now)) (solutions_of dict left)
+            (tree_solutions dict self.now.index.now self.now.width active right.now)) r.0 r.1) }
+        ensures needed { IfOk result (λ r. TakesOnly (Needed dict self.now.index.now self.now.width active
+            (algebra_of right.now)) dict r.1) }
+        ensures one_worker { HasOneWorker self.now.context.how.now → IfErr result (λ fault. fault ≡ Memory) }
+    {
+        let (right, dict) = self.solve_to_join(dict, active, &left, right)?;
+        let place = self.place(Owner::LeftJoin, condition);
+        left_join_with(
+            &self.context,
+            self.state,
+            dict,
+            &left,
+            &right,
+            condition,
+            place,
+        )
+    }
+
+    /// Unites rows with the solutions of a tree.
+    #[cycle(solve)]
+    pub(crate) fn solve_union(
+        &self,
+        dict: Dict,
+        active: Option<u64>,
+        left: Rows,
+        right: &Operator,
+    ) -> Result<(Rows, Dict), EvalFault>
+        requires index { AreBelow (length dict) self.now.index.now }
+        requires active { ForSome active (λ g. g < length dict) }
+        requires same_width { left.width ≡ self.now.width }
+        requires known_left { AreKnown dict left }
+        requires within { is_within self.now.width (algebra_of right.now) ≡ true }
+        ensures evaluated { IfOk result (λ r. IsEvaluated dict left.width
+            (solutions_of dict left
+            ++ tree_solutions dict self.now.index.now self.now.width active right.now) r.0 r.1) }
+        ensures needed { IfOk result (λ r. TakesOnly (Needed dict self.now.index.now self.now.width active
+            (algebra_of right.now)) dict r.1) }
+        ensures one_worker { HasOneWorker self.now.context.how.now → IfErr result (λ fault. fault ≡ Memory) }
+    {
+        let (right, dict) = self.solve(dict, active, right)?;
+        union_of(dict, left, right)
+    }
+
+    /// Applies Minus to rows and the solutions of a tree.
+    #[cycle(solve)]
+    pub(crate) fn solve_minus(
+        &self,
+        dict: Dict,
+        active: Option<u64>,
+        left: Rows,
+        right: &Operator,
+    ) -> Result<(Rows, Dict), EvalFault>
+        requires index { AreBelow (length dict) self.now.index.now }
+        requires active { ForSome active (λ g. g < length dict) }
+        requires same_width { left.width ≡ self.now.width }
+        requires known_left { AreKnown dict left }
+        requires within { is_within self.now.width (algebra_of right.now) ≡ true }
+        ensures evaluated { IfOk result (λ r. IsEvaluated dict left.width
+            (minus term_eq (solutions_of dict left)
+            (tree_solutions dict self.now.index.now self.now.width active right.now)) r.0 r.1) }
+        ensures needed { IfOk result (λ r. TakesOnly (Needed dict self.now.index.now self.now.width active
+            (algebra_of right.now)) dict r.1) }
+        ensures one_worker { HasOneWorker self.now.context.how.now → IfErr result (λ fault. fault ≡ Memory) }
+    {
+        let (right, dict) = self.solve_to_join(dict, active, &left, right)?;
+        minus_with(&self.context, self.state, dict, &left, &right)
+    }
+}
