@@ -374,6 +374,11 @@ def memory():
                  + "spq: 2 malformed lines\n  2  expected a subject (an IRI or a blank node) (first: line 1, column 1)\n", start=1)
     yield failed("a worker", ["check", "--workers", "64", "--piece", "1"], STATEMENT * 200, 4, "error: worker",
                  "spq: a thread could not be started: 64 workers were asked for\nhint: use --workers 1\n", start=2)
+    # The first thread is for messages, two threads load the document, and the next ones list its malformed lines.
+    for words in (["check"], ["terms"]):
+        yield failed(f"a worker while lines are listed, {words[0]}", [*words, "--workers", "2", "--piece", "1"], b".\n" + STATEMENT + b"x\n", 1, "error: line 1",
+                     "spq: line 1: this is not a line of N-Quads\n"
+                     "spq: there may be more malformed lines: memory or threads ran out before all were listed\n", start=4)
     yield Case("the thread of a query", ["select", "--workers", "1", "--query", "SELECT * {}"], STATEMENT, 4, "error: worker\n", NO_QUERY_THREAD, start=2)
     yield failed("a rejected query where no thread starts", ["select", "--query", "SELECT"], STATEMENT, 2, "error: query syntax", None, start=1)
 

@@ -9,8 +9,10 @@ use Rattle.malformed_lines.specs.declared.piece_list.FoundLine.{FoundLine}
 use Rattle.malformed_lines.specs.declared.piece_list.PieceList.{PieceList}
 use Rattle.malformed_lines.specs.declared.document_list.MalformedLine.{MalformedLine}
 use Rattle.malformed_lines.specs.declared.document_list.MalformedLines.{MalformedLines}
-use Rattle.malformed_lines.specs.Malformed.{AreKept, AreMalformedFrom, IsCopy, IsFound, IsListOf, IsListed, IsShown, NameLinesFrom, most_shown}
+use Rattle.malformed_lines.specs.Malformed.{AreKept, AreMalformedFrom, IsCopy, IsFound, IsListOf, IsListed, IsShown, most_shown}
+use Rattle.malformed_lines.specs.Counts.{IsTally, NameLinesFrom, moved}
 use Rattle.malformed_lines.proofs.MalformedLaws.{after_all, numbers_join, numbers_from, still_at}
+use Rattle.malformed_lines.proofs.TallyLaws.{singles_join}
 
 -- the first lines are copied
 pub record IsKeptUpTo (before : ℕ) (found : List FoundLine) (old new : List MalformedLine) (i : ℕ) : Type 0 where
@@ -131,23 +133,24 @@ still_shown a b shown h = λ k d l. let s = h k d l in record {
 }
 
 -- the list of a piece, added to that of the lines before
-pub doc_join : (before after : List (List ℕ)) (old new : MalformedLines) (piece : PieceList) → IsListed before old → IsListOf after piece
+pub doc_join : (before after : List (List ℕ)) (old new : MalformedLines) (piece : PieceList) (h : IsListed before old) (p : IsListOf after piece)
     → AreKept old.lines piece.shown.items old.shown.items new.shown.items → NameLinesFrom 1 (before ++ after) new.reasons.counts.items
+    → IsTally (h.singles ++ map (moved old.lines) p.singles) new.reasons.counts.items
     → new.total ≡ old.total + piece.total → new.lines ≡ old.lines + piece.lines → IsListed (before ++ after) new
-doc_join before after old new piece h p k names t n =
+doc_join before after old new piece h p k names tally t n =
     let number = λ (s : MalformedLine). s.number in
     let place = λ (f : FoundLine). f.place in
-    let moved = λ (i : ℕ). (old.lines + 1) + i in
-    let y : List ℕ = map moved p.places in
+    let later = λ (i : ℕ). (old.lines + 1) + i in
+    let y : List ℕ = map later p.places in
     let c : ℕ = length k.copies in
     let front : map number old.shown.items ≡ take most_shown h.numbers = h.shown in
-    let piece_shown : map moved (map place piece.shown.items) ≡ take most_shown y = ap (map moved) p.shown ∙ sym (take-map moved most_shown p.places) in
+    let piece_shown : map later (map place piece.shown.items) ≡ take most_shown y = ap (map later) p.shown ∙ sym (take-map later most_shown p.places) in
     let back : map number k.copies ≡ take c (take most_shown y) =
     copied_numbers old.lines (take c piece.shown.items) k.copies k.each
-    ∙ ap (map moved) (sym (take-map place c piece.shown.items))
-    ∙ sym (take-map moved c (map place piece.shown.items))
+    ∙ ap (map later) (sym (take-map place c piece.shown.items))
+    ∙ sym (take-map later c (map place piece.shown.items))
     ∙ ap (take c) piece_shown in
-    let many : length piece.shown.items ≡ length (take most_shown y) = sym (length-map piece.shown.items place) ∙ sym (length-map (map place piece.shown.items) moved) ∙ ap length piece_shown in
+    let many : length piece.shown.items ≡ length (take most_shown y) = sym (length-map piece.shown.items place) ∙ sym (length-map (map place piece.shown.items) later) ∙ ap length piece_shown in
     let old_many : length old.shown.items ≡ length (take most_shown h.numbers) = sym (length-map old.shown.items number) ∙ ap length front in
     let new_many : length new.shown.items ≡ length old.shown.items + c = ap length k.added ∙ length-append old.shown.items k.copies in
     let taken : length (take c piece.shown.items) ≡ c = length_zipped (IsCopy old.lines) (take c piece.shown.items) k.copies k.each in
@@ -168,6 +171,9 @@ doc_join before after old new piece h p k names t n =
       shown = ap (map number) k.added ∙ map-append number old.shown.items k.copies ∙ ap (λ (z : List ℕ). z ++ map number k.copies) front ∙ ap (λ (z : List ℕ). take most_shown h.numbers ++ z) back ∙ shown_join h.numbers y c all few short;
       each = subst (λ (z : List MalformedLine). All (IsShown (before ++ after)) z) (sym k.added) (All-append (IsShown (before ++ after)) old.shown.items k.copies (still_shown before after old.shown.items h.each) (all_copies before after old.lines (take c piece.shown.items) k.copies h.count k.each (all_taken (IsFound after) c piece.shown.items p.found)));
       named = names;
-      total = omega (arith, t, h.total, p.total, length-append h.numbers y, length-map p.places moved);
+      singles = h.singles ++ map (moved old.lines) p.singles;
+      one_each = singles_join old.lines before after h.numbers p.places h.singles p.singles h.count h.one_each p.one_each;
+      tally = tally;
+      total = omega (arith, t, h.total, p.total, length-append h.numbers y, length-map p.places later);
       count = omega (arith, n, h.count, p.count, length-append before after);
     }

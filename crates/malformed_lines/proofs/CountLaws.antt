@@ -3,10 +3,9 @@ use Rattle.std.proofs.Common.{◌≡◌, ℕ, ◌+◌, ◌≤◌, ◌<◌, List,
 use Rattle.std.proofs.lemmas.List.Elements.{All-set}
 use Rattle.std.proofs.lemmas.Option.{slice_get_within}
 use Rattle.std.proofs.lemmas.List.Sums.{sum_by-set, get_or-le-sum_by}
-use Rattle.malformed_lines.specs.Counts.{total_of}
+use Rattle.malformed_lines.specs.Counts.{NameLinesFrom, NamesLineFrom, total_of}
 use Rattle.line_diagnosis.specs.declared.summary.Summary.{Summary}
 use Rattle.line_diagnosis.specs.Summary.{DifferInFound}
-use Rattle.malformed_lines.specs.Malformed.{NameLinesFrom, NamesLineFrom}
 use Rattle.malformed_lines.proofs.MalformedLaws.{after_all, still_at}
 use Rattle.malformed_lines.specs.declared.reason_counts.ReasonCount.{ReasonCount}
 

@@ -1,5 +1,7 @@
 pub mod MalformedLaws
 pub mod CountLaws
+pub mod TallyLaws
+pub mod ReasonLaws
 pub mod ListSteps
 pub mod AddingSteps
 mod FirstBytes

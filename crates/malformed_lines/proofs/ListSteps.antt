@@ -16,9 +16,11 @@ use Rattle.malformed_lines.specs.declared.reason_counts.ReasonCount.{ReasonCount
 use Rattle.malformed_lines.specs.declared.piece_list.FoundLine.{FoundLine}
 use Rattle.malformed_lines.specs.declared.piece_list.PieceList.{PieceList}
 use Rattle.line_diagnosis.specs.Summary.{DifferInFound}
-use Rattle.malformed_lines.specs.Malformed.{AreMalformedFrom, IsFound, IsKept, IsListOf, NameLinesFrom, NamesLineFrom, most_shown}
+use Rattle.malformed_lines.specs.Counts.{IsTally, NameLinesFrom, NamesLineFrom}
+use Rattle.malformed_lines.specs.Malformed.{AreMalformedFrom, AreSingles, IsFound, IsKept, IsListOf, most_shown}
 use Rattle.malformed_lines.proofs.CountLaws.{named_still}
 use Rattle.malformed_lines.proofs.MalformedLaws.{malformed_more, still_at, well_formed_more}
+use Rattle.malformed_lines.proofs.TallyLaws.{singles_more, singles_still}
 
 pub at_end : (a : List (List ℕ)) (line : List ℕ) (b : List (List ℕ)) → slice_get (a ++ line ∷ b) (length a) ≡ Some line
 at_end [] line b = refl
@@ -61,10 +63,11 @@ named_here before line old d c h m x f o u s = record {
 }
 
 -- the line after these is malformed
-pub one_malformed : (before : List (List ℕ)) (line : List ℕ) (old new : PieceList) → IsListOf before old → IsMalformed line
+pub one_malformed : (before : List (List ℕ)) (line : List ℕ) (old new : PieceList) (c : ReasonCount) (h : IsListOf before old) → IsMalformed line
     → IsKept old.shown.items old.lines line new.shown.items → NameLinesFrom 0 (before ++ line ∷ []) new.reasons.counts.items
+    → c.count ≡ 1 → c.first ≡ old.lines → NamesLineFrom 0 (before ++ line ∷ []) c → IsTally (h.singles ++ c ∷ []) new.reasons.counts.items
     → new.total ≡ old.total + 1 → new.lines ≡ old.lines + 1 → IsListOf (before ++ line ∷ []) new
-one_malformed before line old new h m k names t n =
+one_malformed before line old new c h m k names one number name tally t n =
     let place = λ (f : FoundLine). f.place in
     let places' : List ℕ = h.places ++ old.lines ∷ [] in
     let here : old.lines ≡ 0 + length before = omega (arith, h.count) in
@@ -73,6 +76,8 @@ one_malformed before line old new h m k names t n =
     let count : new.lines ≡ length (before ++ line ∷ []) = omega (arith, n, h.count, length-append before (line ∷ [])) in
     let same : length old.shown.items ≡ length (take most_shown h.places) = sym (length-map old.shown.items place) ∙ ap length h.shown in
     let still = still_found before (line ∷ []) old.shown.items h.found in
+    let each : AreSingles 0 (before ++ line ∷ []) places' (h.singles ++ c ∷ []) =
+    subst (λ (x : ℕ). AreSingles 0 (before ++ line ∷ []) (h.places ++ x ∷ []) (h.singles ++ c ∷ [])) number (singles_more 0 before line h.places h.singles c h.one_each one name) in
     elim k as (λ k. IsListOf (before ++ line ∷ []) new) [
       | inl a ↦ record {
         places = places';
@@ -80,6 +85,9 @@ one_malformed before line old new h m k names t n =
         shown = ap (map place) a.1.1 ∙ map-append place old.shown.items (a.1.0 ∷ []) ∙ ap (λ (y : List ℕ). y ++ place a.1.0 ∷ []) h.shown ∙ ap (λ (y : ℕ). take most_shown h.places ++ y ∷ []) a.1.2 ∙ sym (shown_more h.places old.lines (subst (λ (y : ℕ). y < most_shown) same a.0));
         found = subst (λ (y : List FoundLine). All (IsFound (before ++ line ∷ [])) y) (sym a.1.1) (All-append (IsFound (before ++ line ∷ [])) old.shown.items (a.1.0 ∷ []) still (one_found before line a.1.0 (a.1.2 ∙ h.count) a.1.3));
         named = names;
+        singles = h.singles ++ c ∷ [];
+        one_each = each;
+        tally = tally;
         total = total;
         count = count;
       }
@@ -89,6 +97,9 @@ one_malformed before line old new h m k names t n =
         shown = ap (map place) b.1 ∙ h.shown ∙ sym (shown_full h.places old.lines (subst (λ (y : ℕ). most_shown ≤ y) same b.0));
         found = subst (λ (y : List FoundLine). All (IsFound (before ++ line ∷ [])) y) (sym b.1) still;
         named = names;
+        singles = h.singles ++ c ∷ [];
+        one_each = each;
+        tally = tally;
         total = total;
         count = count;
       }
@@ -106,6 +117,9 @@ one_well_formed before line q old new h s e r t n =
       shown = ap (map (λ (f : FoundLine). f.place)) i ∙ h.shown;
       found = subst (λ (y : List FoundLine). All (IsFound (before ++ line ∷ [])) y) (sym i) (still_found before (line ∷ []) old.shown.items h.found);
       named = subst (NameLinesFrom 0 (before ++ line ∷ [])) (sym r) (named_still 0 before (line ∷ []) old.reasons.counts.items h.named);
+      singles = h.singles;
+      one_each = singles_still 0 before (line ∷ []) h.places h.singles h.one_each;
+      tally = subst (IsTally h.singles) (sym r) h.tally;
       total = t ∙ h.total;
       count = omega (arith, n, h.count, length-append before (line ∷ []));
     }

@@ -4,9 +4,7 @@ use Rattle.std.specs.Prelude.{◌≡◌, ◌⊎◌, ◌++◌, ℕ, ◌+◌, ◌<
 use Rattle.std.specs.List.{All, AllZip, slice_get}
 use Rattle.rdf_core.specs.QuadParts.{QuadParts}
 use Rattle.nquads_core.specs.Grammar.{HasStatement, IsMalformed}
-use Rattle.line_diagnosis.specs.declared.diagnosis.Diagnosis.{Diagnosis}
-use Rattle.line_diagnosis.specs.Explained.{IsExplained}
-use Rattle.line_diagnosis.specs.Summary.{DifferInFound}
+use Rattle.malformed_lines.specs.Counts.{IsTally, NameLinesFrom}
 use Rattle.malformed_lines.specs.declared.reason_counts.ReasonCount.{ReasonCount}
 use Rattle.malformed_lines.specs.declared.piece_list.FoundLine.{FoundLine}
 use Rattle.malformed_lines.specs.declared.piece_list.PieceList.{PieceList}
@@ -37,31 +35,23 @@ AreMalformed lines numbers = AreMalformedFrom 1 lines numbers
 abbrev pub IsFound : List (List ℕ) → FoundLine → Type 0
 IsFound lines found = slice_get lines found.place ≡ Some found.bytes.now
 
--- The count names a malformed line, by its number from n on, and the reason and the column of the place in it.
-pub record NamesLineFrom (n : ℕ) (lines : List (List ℕ)) (c : ReasonCount) : Type 0 where
-  pub place : ℕ
-  pub number : c.first ≡ n + place
-  pub line : List ℕ
-  pub at_place : slice_get lines place ≡ Some line
-  pub malformed : IsMalformed line
-  pub diagnosis : Diagnosis
-  pub explained : IsExplained line diagnosis
-  pub column : c.column ≡ diagnosis.column
-  pub counted : c.counted ≡ diagnosis.counted
-  pub reason : DifferInFound diagnosis.reason c.reason.reason
+-- One count for each malformed line, in order. These are the numbers of the lines, from n on.
+pub record AreSingles (n : ℕ) (lines : List (List ℕ)) (numbers : List ℕ) (singles : List ReasonCount) : Type 0 where
+  pub numbered : map (λ c. c.first) singles ≡ numbers
+  pub ones : All (λ c. c.count ≡ 1) singles
+  pub named : NameLinesFrom n lines singles
 
--- each count names a malformed line
-abbrev pub NameLinesFrom : ℕ → List (List ℕ) → List ReasonCount → Type 0
-NameLinesFrom n lines counts = All (NamesLineFrom n lines) counts
-
--- The list of a piece with these lines: the first twenty malformed ones, counted from 0, and how many there are. The count
--- of each reason names one of them.
+-- The list of a piece with these lines: the first twenty malformed ones, counted from 0, how many there are, and how many
+-- with each reason. The count of a reason names the first of its lines.
 pub record IsListOf (lines : List (List ℕ)) (list : PieceList) : Type 0 where
   pub places : List ℕ
   pub malformed : AreMalformedFrom 0 lines places
   pub shown : map (λ f. f.place) list.shown.items ≡ take most_shown places
   pub found : All (IsFound lines) list.shown.items
   pub named : NameLinesFrom 0 lines list.reasons.counts.items
+  pub singles : List ReasonCount
+  pub one_each : AreSingles 0 lines places singles
+  pub tally : IsTally singles list.reasons.counts.items
   pub total : list.total ≡ length places
   pub count : list.lines ≡ length lines
 
@@ -78,14 +68,17 @@ pub record IsShown (lines : List (List ℕ)) (shown : MalformedLine) : Type 0 wh
   pub at_place : slice_get lines place ≡ Some line
   pub kept : IsKeptOf line shown
 
--- The list of a document with these lines: the first twenty malformed ones by their numbers, and how many there are. The
--- count of each reason names one of them.
+-- The list of a document with these lines: the first twenty malformed ones by their numbers, how many there are, and how
+-- many with each reason. The count of a reason names the first of its lines.
 pub record IsListed (lines : List (List ℕ)) (list : MalformedLines) : Type 0 where
   pub numbers : List ℕ
   pub malformed : AreMalformed lines numbers
   pub shown : map (λ s. s.number) list.shown.items ≡ take most_shown numbers
   pub each : All (IsShown lines) list.shown.items
   pub named : NameLinesFrom 1 lines list.reasons.counts.items
+  pub singles : List ReasonCount
+  pub one_each : AreSingles 1 lines numbers singles
+  pub tally : IsTally singles list.reasons.counts.items
   pub total : list.total ≡ length numbers
   pub count : list.lines ≡ length lines
 

@@ -1,7 +1,9 @@
 //! How often each reason occurs, and where first.
-ghost use Rattle.std.specs.Prelude.{◌≡◌, ◌+◌, ◌≤◌, ◌<◌, ◌^◌, ◌++◌, [], List, ℕ, IfOk, OnOk, OnErr, length, vec_len, vec_capacity};
-ghost use Rattle.malformed_lines.specs.Counts.{total_of};
-ghost use Rattle.malformed_lines.specs.Malformed.{NameLinesFrom, NamesLineFrom};
+ghost use Rattle.std.specs.Prelude.{◌≡◌, ◌≢◌, ◌+◌, ◌≤◌, ◌<◌, ◌^◌, ◌++◌, ◌∷◌, [], List, ℕ, Bool, IfOk, MatchBool, OnOk, OnErr, length, slice_index_or, vec_len, vec_capacity};
+ghost use Rattle.std.specs.List.{All};
+ghost use Rattle.line_diagnosis.specs.declared.summary.Summary.{Summary};
+ghost use Rattle.malformed_lines.specs.Counts.{AreDistinct, HasNone, IsFirst, NameLinesFrom, NamesLineFrom, moved, reasons_of, sum_of, total_of};
+ghost use Rattle.malformed_lines.specs.declared.reason_counts.ReasonCount.{ReasonCount};
 
 use line_diagnosis::{Counted, Summary};
 use std::alloc::{AllocError, Global};
@@ -21,10 +23,18 @@ pub struct ReasonCount {
     pub counted: Counted,
 }
 
-/// How often each reason occurs, in the order of the first lines.
+/// How often each reason occurs, in the order of the first lines. Each reason has one count.
 #[derive(Drop)]
 pub struct ReasonCounts {
     pub counts: Vec<ReasonCount>,
+    ghost distinct: { AreDistinct counts.items },
+}
+
+/// Returns whether two reasons are the same.
+fn is_same(a: Summary, b: Summary) -> bool
+    ensures value { MatchBool result (a ≡ b) (a ≢ b) }
+{
+    a == b
 }
 
 impl ReasonCounts {
@@ -40,9 +50,12 @@ impl ReasonCounts {
     /// Returns the place of a reason, or the number of reasons if it has no count yet.
     fn place_of(&self, reason: Summary) -> usize
         ensures within { result ≤ length self.now.counts.items }
+        ensures same { result < length self.now.counts.items → (d : Summary)
+            → slice_index_or (reasons_of self.now.counts.items) result d ≡ reason }
+        ensures none { length self.now.counts.items ≤ result → HasNone reason self.now.counts.items }
     {
         for i in 0..self.counts.len() {
-            if self.counts[i].reason == reason {
+            if is_same(self.counts[i].reason, reason) {
                 return i;
             }
         }
@@ -68,6 +81,13 @@ impl ReasonCounts {
             ≡ total_of self.old.counts.items + more.count }
         ensures named { (n : ℕ) (lines : List (List ℕ)) → NameLinesFrom n lines self.old.counts.items
             → NamesLineFrom n lines more → NameLinesFrom n lines self.new.counts.items }
+        ensures sums { (test : Summary → Bool) → sum_of test self.new.counts.items
+            ≡ sum_of test self.old.counts.items + sum_of test (more ∷ []) }
+        ensures firsts { (singles : List ReasonCount) → All (IsFirst singles) self.old.counts.items
+            → (HasNone more.reason self.old.counts.items → IsFirst singles more)
+            → All (IsFirst singles) self.new.counts.items }
+        ensures complete { (r : Summary) → HasNone r self.new.counts.items
+            → HasNone r self.old.counts.items × (more.reason ≢ r) }
         ensures few { vec_len self.new.counts ≤ vec_len self.old.counts + 1 }
         ensures capacity { vec_capacity self.new.counts ≡ vec_capacity self.old.counts }
     {
@@ -90,6 +110,14 @@ impl ReasonCounts {
             → NameLinesFrom n lines self.new.counts.items) }
         ensures total { OnOk result (total_of self.new.counts.items
             ≡ total_of self.old.counts.items + more.count) }
+        ensures sums { OnOk result ((test : Summary → Bool) → sum_of test self.new.counts.items
+            ≡ sum_of test self.old.counts.items + sum_of test (more ∷ [])) }
+        ensures firsts { OnOk result ((singles : List ReasonCount)
+            → All (IsFirst singles) self.old.counts.items
+            → (HasNone more.reason self.old.counts.items → IsFirst singles more)
+            → All (IsFirst singles) self.new.counts.items) }
+        ensures complete { OnOk result ((r : Summary) → HasNone r self.new.counts.items
+            → HasNone r self.old.counts.items × (more.reason ≢ r)) }
         ensures unchanged { OnErr result (self.new.counts.items ≡ self.old.counts.items) }
     {
         self.reserve(1)?;
@@ -109,6 +137,15 @@ impl ReasonCounts {
             → NameLinesFrom 1 (front ++ back) self.new.counts.items) }
         ensures total { OnOk result (total_of self.new.counts.items
             ≡ total_of self.old.counts.items + total_of more.now) }
+        ensures sums { OnOk result ((test : Summary → Bool) → sum_of test self.new.counts.items
+            ≡ sum_of test self.old.counts.items + sum_of test more.now) }
+        ensures firsts { OnOk result ((singles : List ReasonCount)
+            → All (λ c. before + (c.first + 1) < 2 ^ 128) more.now
+            → All (IsFirst singles) self.old.counts.items
+            → All (λ c. HasNone c.reason self.old.counts.items → IsFirst singles (moved before c)) more.now
+            → All (IsFirst singles) self.new.counts.items) }
+        ensures complete { OnOk result ((r : Summary) → HasNone r self.new.counts.items
+            → HasNone r self.old.counts.items × HasNone r more.now) }
         ensures unchanged { OnErr result (self.new.counts.items ≡ self.old.counts.items) }
     {
         self.reserve(more.len())?;

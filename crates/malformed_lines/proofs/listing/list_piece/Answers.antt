@@ -1,7 +1,7 @@
 use Rattle.std.proofs.Common.{sym}
 use Rattle.std.proofs.lemmas.List.{nil_from_length}
 use Rattle.std.proofs.lemmas.Bool.{eqb-true}
-use Rattle.malformed_lines.proofs.ListSteps.{all_listed, plain_listed}
+use Rattle.malformed_lines.proofs.ListSteps.{all_listed, one_more, plain_listed}
 use Rattle.malformed_lines.proofs.listing.list_piece.Goals as goal
 
 pub returns : goal.returns
@@ -13,3 +13,8 @@ pub loop-rest-init : goal.loop-rest-init
 loop-rest-init c =
     let front = c.skip_plain_lines-plain.ensures.lines in
     plain_listed c.after-list.result c.skip_plain_lines-plain.result.0 c.skip_plain_lines-plain.result.1.now c.args.bytes.now front.0 front.1 c.after-list.ensures.listed c.after-list.ensures.lines c.skip_plain_lines-plain.ensures.shorter
+
+pub loop-rest-preserved : goal.loop-rest-preserved
+loop-rest-preserved c =
+    one_more c.loop-rest.list c.add_line.new.self c.loop-rest.rest.now c.first_line.result.1.now c.args.bytes.now c.first_line.result.0.now c.loop-rest.invariant
+    c.first_line.ensures.lines c.first_line.ensures.shorter c.in_ok-add_line.ensures.listed c.in_ok-add_line.ensures.lines
