@@ -1,13 +1,13 @@
 -- How many lines have each reason, and which is the first of them.
 use Rattle.std.specs.Prelude.{Bool, true, false, if◌then◌else◌}
-use Rattle.std.proofs.Common.{◌≡◌, ◌≢◌, ℕ, ◌+◌, ◌≤◌, ◌<◌, ◌^◌, List, [], ◌∷◌, ◌++◌, length, map, take, get_or, set, refl, sym, ap, subst, ◌∙◌, append_assoc, length-append, arith, inl, inr}
+use Rattle.std.proofs.Common.{◌≡◌, ◌≢◌, ℕ, ◌+◌, ◌<◌, ◌^◌, List, [], ◌∷◌, ◌++◌, length, map, take, get_or, set, refl, sym, ap, subst, ◌∙◌, append_assoc, length-append, arith, inl, inr}
 use Rattle.std.specs.List.{All, sum_by}
 use Rattle.std.proofs.lemmas.Bool.{cases_lt}
 use Rattle.std.proofs.lemmas.List.{get_or_append_left, get_or_push, get_or-map, length-map, map-append, map-set, map_push, set-get_or, take_more}
 use Rattle.std.proofs.lemmas.List.Elements.{All-append, All-map, All-nil, All-push, All-set, All-weaker}
 use Rattle.std.proofs.lemmas.List.Sums.{sum_by-append, sum_by-cons, sum_by-set, sum_by_more}
 use Rattle.line_diagnosis.specs.declared.summary.Summary.{Summary}
-use Rattle.malformed_lines.specs.Counts.{AreDifferent, AreDistinct, HasNone, IsFirst, IsTally, NameLinesFrom, NamesLineFrom, moved, reasons_of, sum_of}
+use Rattle.malformed_lines.specs.Counts.{AreDifferent, AreDistinct, HasNone, IsFirst, IsTally, NamesLineFrom, moved, reasons_of, sum_of}
 use Rattle.malformed_lines.specs.Malformed.{AreSingles}
 use Rattle.malformed_lines.specs.declared.reason_counts.ReasonCount.{ReasonCount}
 use Rattle.malformed_lines.proofs.CountLaws.{named_moved, named_still}
