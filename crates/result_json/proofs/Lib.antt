@@ -4,6 +4,7 @@ pub mod ColumnLaws
 pub mod JsonLaws
 pub mod KeyedLaws
 pub mod OrderSteps
+pub mod PackLaws
 pub mod PairLaws
 pub mod PieceLaws
 pub mod PrintedLaws

@@ -9,10 +9,8 @@ use Rattle.std.proofs.lemmas.Bool.{ne_eqb}
 use Rattle.std.proofs.lemmas.List.Concat.{flat_map-append}
 use Rattle.rdf_core.specs.declared.term.Term.{Term}
 use Rattle.row_pieces.specs.Pieces.{piece_of}
-use Rattle.result_json.specs.declared.ranked_row.RankedRow.{RankedRow}
-use Rattle.result_json.specs.RankedRows.{ranks_of}
 use Rattle.result_json.specs.Results.{joined_blocks, separated}
-use Rattle.result_json.specs.Texts.{begun_column, begun_row, comma_texts, piece_text, row_texts}
+use Rattle.result_json.specs.Texts.{begun_column, begun_row, comma_texts, piece_text, rank_texts}
 use Rattle.result_json.proofs.SeparatedLaws.{comma_texts-append}
 
 none : {X : Type 0} (xs : List X) → length xs ≤ 0 → xs ≡ []
@@ -43,38 +41,38 @@ comma_at-false zero = refl
 comma_at-false (suc i) = ap not (ne_eqb (suc i) 0 (λ e. omega (arith, e)))
 
 module _ (terms : List Term) (columns : List (Vec ℕ Global × ℕ)) (size : ℕ) where
-  abbrev pub texts : List RankedRow → List (List ℕ)
-  texts rows = row_texts terms columns rows
+  abbrev pub texts : List (List ℕ) → List (List ℕ)
+  texts rows = rank_texts terms columns rows
 
-  texts-append : (xs ys : List RankedRow) → texts (xs ++ ys) ≡ texts xs ++ texts ys
-  texts-append xs ys = ap (map (begun_row terms (map begun_column columns))) (map-append (λ (r : RankedRow). r.ranks.now) xs ys) ∙ map-append (begun_row terms (map begun_column columns)) (ranks_of xs) (ranks_of ys)
+  texts-append : (xs ys : List (List ℕ)) → texts (xs ++ ys) ≡ texts xs ++ texts ys
+  texts-append xs ys = map-append (begun_row terms (map begun_column columns)) xs ys
 
-  texts-length : (xs : List RankedRow) → length (texts xs) ≡ length xs
-  texts-length xs = length-map (ranks_of xs) (begun_row terms (map begun_column columns)) ∙ length-map xs (λ (r : RankedRow). r.ranks.now)
+  texts-length : (xs : List (List ℕ)) → length (texts xs) ≡ length xs
+  texts-length xs = length-map xs (begun_row terms (map begun_column columns))
 
-  pieces : (later : Bool) (blocks : List (Vec ℕ Global)) (rows : List RankedRow) → 0 < size
+  pieces : (later : Bool) (blocks : List (Vec ℕ Global)) (rows : List (List ℕ)) → 0 < size
       → ((i : ℕ) (d : Vec ℕ Global) → i < length blocks → (slice_index_or blocks i d).items ≡ comma_texts (comma_at later i) (texts (piece_of size i rows)))
       → length rows ≤ length blocks * size → joined_blocks blocks ≡ comma_texts later (texts rows)
   pieces later [] rows p each h =
       let z = zero-mul size in
-      sym (ap (λ (rs : List RankedRow). comma_texts later (texts rs)) (none rows (omega arith)) ∙ no_texts later)
+      sym (ap (λ (rs : List (List ℕ)). comma_texts later (texts rs)) (none rows (omega arith)) ∙ no_texts later)
   pieces later (b ∷ bs) rows p each h =
       let m = suc-mul (length bs) size in
       let l = length-drop size rows in
       let front = take size rows in
       let following = drop size rows in
       let z : drop (0 * size) rows ≡ rows = ap (λ k. drop k rows) (zero-mul size) in
-      let first : b.items ≡ comma_texts later (texts front) = each 0 b (omega arith) ∙ ap (λ (rs : List RankedRow). comma_texts later (texts (take size rs))) z in
+      let first : b.items ≡ comma_texts later (texts front) = each 0 b (omega arith) ∙ ap (λ (rs : List (List ℕ)). comma_texts later (texts (take size rs))) z in
       let next : (i : ℕ) → piece_of size (suc i) rows ≡ piece_of size i following =
       λ i. ap (take size) (ap (λ k. drop k rows) (let e = suc-mul i size in omega arith) ∙ sym (drop-drop (i * size) size rows)) in
       let rest : joined_blocks bs ≡ comma_texts true (texts following) = pieces true bs following p
-      (λ i d low. each (suc i) d (omega arith) ∙ ap (λ (rs : List RankedRow). comma_texts true (texts rs)) (next i) ∙ ap (λ (b : Bool). comma_texts b (texts (piece_of size i following))) (sym (comma_at-true i))) (omega arith) in
+      (λ i d low. each (suc i) d (omega arith) ∙ ap (λ (rs : List (List ℕ)). comma_texts true (texts rs)) (next i) ∙ ap (λ (b : Bool). comma_texts b (texts (piece_of size i following))) (sym (comma_at-true i))) (omega arith) in
       let nothing : length (texts front) ≤ 0 → texts following ≡ [] =
       λ e. ap texts (none following (omega (arith, e, texts-length front, length-take size rows, l))) in
       (λ i. first i ++ rest i) ∙ sym (in_two later (texts front) (texts following) nothing) ∙ ap (comma_texts later) (sym (texts-append front following) ∙ ap texts (take-append-drop size rows))
 
   -- this number of pieces holds all rows
-  pub pieces-joined : (count number : ℕ) (blocks : List (Vec ℕ Global)) (rows : List RankedRow) → 0 < size → count ≡ length rows → number ≡ div_ceil count size → length blocks ≡ number
+  pub pieces-joined : (count number : ℕ) (blocks : List (Vec ℕ Global)) (rows : List (List ℕ)) → 0 < size → count ≡ length rows → number ≡ div_ceil count size → length blocks ≡ number
       → ((i : ℕ) (d : Vec ℕ Global) → i < number → (slice_index_or blocks i d).items ≡ piece_text terms columns rows size i)
       → joined_blocks blocks ≡ separated (texts rows)
   pieces-joined count number blocks rows p c n b each =

@@ -1,4 +1,5 @@
 pub mod Keyed
+pub mod Packed
 pub mod Pairs
 pub mod Results
 pub mod Ranks

@@ -67,14 +67,18 @@ abbrev pub comma_texts : Bool → List (List ℕ) → List ℕ
 comma_texts true xs = flat_map (λ y. 44 ∷ y) xs
 comma_texts false xs = separated xs
 
+-- the texts of rows of ranks
+abbrev pub rank_texts : List Term → List (Vec ℕ Global × ℕ) → List (List ℕ) → List (List ℕ)
+rank_texts terms columns rows = map (begun_row terms (map begun_column columns)) rows
+
 -- the texts of rows
 abbrev pub row_texts : List Term → List (Vec ℕ Global × ℕ) → List RankedRow → List (List ℕ)
-row_texts terms columns rows = map (begun_row terms (map begun_column columns)) (ranks_of rows)
+row_texts terms columns rows = rank_texts terms columns (ranks_of rows)
 
--- piece i of rows, with `size` rows for each piece, and a comma before each row except the first of
--- all
-abbrev pub piece_text : List Term → List (Vec ℕ Global × ℕ) → List RankedRow → ℕ → ℕ → List ℕ
-piece_text terms columns rows size i = comma_texts (not (i == 0)) (row_texts terms columns (piece_of size i rows))
+-- piece i of rows of ranks, with `size` rows for each piece, and a comma before each row except the
+-- first of all
+abbrev pub piece_text : List Term → List (Vec ℕ Global × ℕ) → List (List ℕ) → ℕ → ℕ → List ℕ
+piece_text terms columns rows size i = comma_texts (not (i == 0)) (rank_texts terms columns (piece_of size i rows))
 
 -- what precedes the rows of a result
 abbrev pub head_text : List (List ℕ) → List ℕ

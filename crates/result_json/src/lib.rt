@@ -16,6 +16,7 @@
 //! - Their distinct terms are sorted, and the rank of its term replaces each number. Workers sort
 //!   pieces of the terms by keys. The pieces are merged, and workers check the order.
 //! - The rows are sorted by ranks. Rows of two cells are first sorted as one number each.
+//! - The rows that OFFSET and LIMIT keep are packed, and the memory of the sort is freed.
 //! - Each term of the result is printed once. Workers print pieces of the terms, each piece into a
 //!   buffer of its own. A text that needs no escape is copied; the JSON library prints the others.
 //! - Workers append rows in pieces, each piece into one block whose size is computed before. The
@@ -23,10 +24,10 @@
 //!
 //! Reading order: `printing`, `coding` (cells as numbers), `ranking` (numbers as ranks), `presort`
 //! (terms sorted by keys, in parallel), `order_check` (whether they are in order), `pair_order` (rows
-//! of two ranks), `ranked_row` and `row_order`, `values` (texts as JSON strings, and terms as
-//! objects), `term_texts`, `text_pieces` (terms printed in parallel), `columns`, `prefetch` (texts of
-//! several rows at once), `row_texts`, `row_blocks` (rows in parallel), `results`. Tests:
-//! `evaluation::json` of the crate query_tests.
+//! of two ranks), `ranked_row` and `row_order`, `packed_rows` (sorted rows in less memory), `values`
+//! (texts as JSON strings, and terms as objects), `term_texts`, `text_pieces` (terms printed in
+//! parallel), `columns`, `prefetch` (texts of several rows at once), `row_texts`, `row_blocks` (rows in
+//! parallel), `results`. Tests: `evaluation::json` of the crate query_tests.
 //!
 //! Example: one variable `o` and the rows `"x"` and `<http://e/a>` give
 //! `{"head":{"vars":["o"]},"results":{"bindings":[{"o":{"type":"uri","value":"http://e/a"}},{"o":{"type":"literal","value":"x"}}]}}`
@@ -38,6 +39,7 @@
 mod coding;
 mod columns;
 mod order_check;
+mod packed_rows;
 mod pair_order;
 mod prefetch;
 mod presort;

@@ -9,6 +9,7 @@ ghost use Rattle.row_pieces.specs.declared.fault.EvalFault.TheVariants.{Memory};
 ghost use Rattle.result_json.specs.Results.{joined_blocks, json, listed_names};
 
 use crate::coding::listed_codes;
+use crate::packed_rows::packed;
 use crate::pair_order::order_pairs;
 use crate::ranking::rank;
 use crate::results::to_json;
@@ -91,5 +92,8 @@ pub fn print_rows<R: Threads + Wait, G: Gate + Sync>(
     order_pairs(alloc, &mut ranks, listed.len(), count)?;
     let sorted = sorted_rows(alloc, &ranks, listed.len(), count)?;
     let kept = kept(&sorted, table.offset, table.limit);
-    to_json(rt, alloc, table, &terms, kept, how, gate)
+    let packed = packed(alloc, kept, listed.len())?;
+    drop(sorted);
+    drop(ranks);
+    to_json(rt, alloc, table, &terms, &packed, how, gate)
 }

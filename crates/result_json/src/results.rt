@@ -3,52 +3,57 @@
 ghost use Rattle.std.specs.Prelude.{◌≡◌, ◌++◌, codes, length, map, IfErr, IfOk, OnOk};
 ghost use Rattle.row_pieces.specs.How.{HasOneWorker, IsRunnable};
 ghost use Rattle.row_pieces.specs.declared.fault.EvalFault.TheVariants.{Memory};
-ghost use Rattle.result_json.specs.RankedRows.{ranks_of};
+ghost use Rattle.result_json.specs.Packed.{ranks_in};
 ghost use Rattle.result_json.specs.Ranks.{ranked_row, terms_of};
 ghost use Rattle.result_json.specs.Results.{joined_blocks, json, listed_names, separated, string_text};
 ghost use Rattle.result_json.specs.Texts.{head_text};
 
 use crate::columns::{begun_columns, name_of};
+use crate::packed_rows::rank_at;
 use crate::printing::Table;
-use crate::ranked_row::RankedRow;
 use crate::row_blocks::row_blocks;
 use crate::text_pieces::{TextPieces, place_of};
 use crate::values::put_string;
 use piece_pool::Gate;
 use rdf_core::{Term, Text};
+use row_core::Rows;
 use row_pieces::{EvalFault, How};
 use std::alloc::{AllocError, Global};
 use std::sync::Wait;
 use std::thread::Threads;
 
-/// Marks the terms of a row, each at its place.
+/// Marks the terms of a packed row, each at its place.
 fn mark_cells(
     columns: &[(Vec<u8>, usize)],
     terms: &[(&Term, u64)],
-    row: &RankedRow<'_>,
+    cells: &[Option<u64>],
     shown: &mut [bool],
 )
     requires wide { length shown.old ≡ length (terms_of terms.now) }
 {
     for (_prefix, place) in columns {
-        if let Some(place) = place_of(terms, row.rank(*place)) {
+        if let Some(place) = place_of(terms, rank_at(cells, *place)) {
             shown[place] = true;
         }
     }
 }
 
-/// Marks the terms of the rows, each at its place.
+/// Marks the terms of the packed rows, each at its place.
 fn mark_rows(
+    alloc: Global,
     columns: &[(Vec<u8>, usize)],
     terms: &[(&Term, u64)],
-    rows: &[RankedRow<'_>],
+    rows: &Rows,
     shown: &mut [bool],
-)
+) -> Result<(), AllocError>
     requires wide { length shown.old ≡ length (terms_of terms.now) }
 {
-    for row in rows {
-        mark_cells(columns, terms, row, shown);
+    let mut cells = Vec::new(alloc);
+    for i in 0..rows.len() {
+        rows.read(i, &mut cells)?;
+        mark_cells(columns, terms, cells.as_slice(), shown);
     }
+    Ok(())
 }
 
 /// Returns the table of the terms, in which those of the rows are printed.
@@ -64,7 +69,7 @@ fn printed_texts<'a, R: Threads + Wait>(
     alloc: Global,
     columns: &[(Vec<u8>, usize)],
     terms: &'a [(&'a Term, u64)],
-    rows: &[RankedRow<'_>],
+    rows: &Rows,
     how: &How,
 ) -> Result<TextPieces<'a>, EvalFault>
     requires how { IsRunnable how.now }
@@ -72,7 +77,7 @@ fn printed_texts<'a, R: Threads + Wait>(
     ensures one_worker { HasOneWorker how.now → IfErr result (λ fault. fault ≡ Memory) }
 {
     let mut shown = vec![in alloc; false; terms.len()]?;
-    mark_rows(columns, terms, rows, &mut shown);
+    mark_rows(alloc, columns, terms, rows, &mut shown)?;
     TextPieces::print(rt, alloc, terms, &shown, how)
 }
 
@@ -134,7 +139,7 @@ fn enclosed(
 }
 
 /// Prints the result of a query as JSON (SPARQL 1.1 Query Results JSON Format): the names of the
-/// projected variables of the table, and the rows in order. Each row has one rank for each
+/// projected variables of the table, and the packed rows in order. Each row has one rank for each
 /// variable, and a rank is the place of a term plus one. The text ends with a line feed.
 ///
 /// # Requires
@@ -148,7 +153,7 @@ pub(crate) fn to_json<R: Threads + Wait, G: Gate + Sync>(
     alloc: Global,
     table: &Table<'_>,
     terms: &[(&Term, u64)],
-    rows: &[RankedRow<'_>],
+    rows: &Rows,
     how: &How,
     gate: &G,
 ) -> Result<Vec<Vec<u8>>, EvalFault>
@@ -156,7 +161,7 @@ pub(crate) fn to_json<R: Threads + Wait, G: Gate + Sync>(
     ensures json { IfOk result
         (λ blocks. joined_blocks blocks.items
         ≡ json (listed_names table.now.names.now table.now.listed.now)
-        (map (ranked_row (terms_of terms.now)) (ranks_of rows.now))) }
+        (map (ranked_row (terms_of terms.now)) (ranks_in rows.now))) }
     ensures one_worker { HasOneWorker how.now → IfErr result (λ fault. fault ≡ Memory) }
 {
     let columns = begun_columns(alloc, table.names, table.listed)?;

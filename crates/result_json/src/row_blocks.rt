@@ -1,17 +1,22 @@
 //! Rows as JSON in blocks, one for each piece of the rows. Workers print the blocks in parallel.
 //!
-//! Each worker allocates the blocks that it prints, so the workers share the cost of new memory.
+//! Each worker allocates the blocks that it prints, so the workers share the cost of new memory. It
+//! unpacks the rows of a block before it prints them.
 ghost use Rattle.std.specs.Prelude.{◌≡◌, IfErr, IfOk};
 ghost use Rattle.row_pieces.specs.How.{HasOneWorker, IsRunnable};
 ghost use Rattle.row_pieces.specs.Pieces.{piece_of};
 ghost use Rattle.row_pieces.specs.declared.fault.EvalFault.TheVariants.{Memory};
+ghost use Rattle.result_json.specs.Packed.{ranks_in};
 ghost use Rattle.result_json.specs.Results.{joined_blocks, separated};
-ghost use Rattle.result_json.specs.Texts.{comma_texts, row_texts};
+ghost use Rattle.result_json.specs.Texts.{comma_texts, piece_text, rank_texts, row_texts};
 
+use crate::packed_rows::{piece_ends, unpacked};
 use crate::ranked_row::RankedRow;
+use crate::row_order::split_rows;
 use crate::row_texts::put_rows;
 use crate::text_pieces::TextPieces;
 use piece_pool::{Gate, Job, JobFault, Outcome, run_all};
+use row_core::Rows;
 use row_pieces::{EvalFault, How, piece_size};
 use std::alloc::{AllocError, Global};
 use std::sync::Wait;
@@ -22,25 +27,25 @@ use std::thread::Threads;
 struct RowBlocks<'a, 't> {
     columns: &'a [(Vec<u8>, usize)],
     texts: &'a TextPieces<'t>,
-    rows: &'a [RankedRow<'t>],
+    rows: &'a Rows,
     size: usize,
 }
 
 impl<'a, 't> Job for RowBlocks<'a, 't> {
     ghost use Rattle.std.specs.Prelude.{◌≡◌};
+    ghost use Rattle.result_json.specs.Packed.{ranks_in};
     ghost use Rattle.result_json.specs.Texts.{piece_text};
 
     type Out = Vec<u8>;
 
     type Fault = ();
 
-    ghost answers = { λ job i out. out.items ≡ piece_text job.texts.now job.columns.now job.rows.now job.size i };
+    ghost answers = { λ job i out. out.items ≡ piece_text job.texts.now job.columns.now (ranks_in job.rows.now) job.size i };
 
     ghost faults = { λ _ _ _. ⊥ };
 
     fn run(&self, alloc: Global, i: u64) -> Result<Vec<u8>, JobFault<()>> {
-        let rows = piece(self.rows, self.size, i);
-        match block(alloc, self.columns, self.texts, rows, i != 0) {
+        match numbered_block(alloc, self.columns, self.texts, self.rows, self.size, i) {
             Ok(text) => Ok(text),
             Err(_) => Err(JobFault::Memory),
         }
@@ -98,6 +103,27 @@ fn block(
     Ok(out)
 }
 
+/// Prints a piece of `size` packed rows into a block, with a comma before each row except the first of
+/// all.
+fn numbered_block(
+    alloc: Global,
+    columns: &[(Vec<u8>, usize)],
+    texts: &TextPieces<'_>,
+    rows: &Rows,
+    size: usize,
+    number: u64,
+) -> Result<Vec<u8>, AllocError>
+    ensures text { IfOk result
+        (λ block. block.items ≡ piece_text texts.now columns.now (ranks_in rows.now) size number) }
+{
+    let width = rows.width();
+    let count = rows.len();
+    let (from, to) = piece_ends(count, size, number);
+    let ranks = unpacked(alloc, rows, from, to)?;
+    let piece = split_rows(alloc, &ranks, width, to - from)?;
+    block(alloc, columns, texts, &piece, number != 0)
+}
+
 /// Prints the rows with commas between them, into one block for each piece. The pieces are cut as
 /// `how` says, and workers print them. The caller prints a single piece itself, and with one worker
 /// it prints all.
@@ -113,17 +139,18 @@ pub(crate) fn row_blocks<R: Threads + Wait, G: Gate + Sync>(
     alloc: Global,
     columns: &[(Vec<u8>, usize)],
     texts: &TextPieces<'_>,
-    rows: &[RankedRow<'_>],
+    rows: &Rows,
     how: &How,
     gate: &G,
 ) -> Result<Vec<Vec<u8>>, EvalFault>
     requires how { IsRunnable how.now }
     ensures text { IfOk result (λ blocks. joined_blocks blocks.items
-        ≡ separated (row_texts texts.now columns.now rows.now)) }
+        ≡ separated (rank_texts texts.now columns.now (ranks_in rows.now))) }
     ensures one_worker { HasOneWorker how.now → IfErr result (λ fault. fault ≡ Memory) }
 {
-    let size = piece_size(rows.len(), how.rows);
-    let pieces = rows.len().div_ceil(size) as u64;
+    let count = rows.len();
+    let size = piece_size(count, how.rows);
+    let pieces = count.div_ceil(size) as u64;
     let job = RowBlocks {
         columns,
         texts,

@@ -23,7 +23,10 @@ fn later_rows(ranks: &[u64], width: usize) -> &[u64]
 }
 
 /// Splits a list of ranks into `count` consecutive rows of a width.
-fn split_rows(
+///
+/// # Errors
+/// `AllocError` if an allocation fails.
+pub(crate) fn split_rows(
     alloc: Global,
     ranks: &[u64],
     width: usize,
