@@ -28,7 +28,7 @@ class Catalogue(unittest.TestCase):
     def test_check_terms_select(self):
         with open(CATALOGUE, "rb") as source:
             text = source.read()
-        for size in ["400", "1500", "3KiB", "256MiB"]:
+        for size in ["700", "3KiB", "256MiB"]:
             for command in ["check", "terms"]:
                 with self.subTest(command=command, size=size):
                     self.assertEqual(spq_dask([command, "--blocksize", size], CATALOGUE)[:2], spq([command], text))
@@ -98,7 +98,7 @@ class Forms(unittest.TestCase):
 
     TEXT = b"".join(b"<a:s%d> <a:p> \"%d\" <a:g%d> .\n" % (k % 7, k % 11, k % 3) for k in range(60))
 
-    def same(self, text: bytes, *files: str, sizes=("90", "333", "1MiB")):
+    def same(self, text: bytes, *files: str, sizes=("150", "1MiB")):
         query = "SELECT * { GRAPH ?g { ?s ?p ?o } }"
         for size in sizes:
             for words, options in [(["check"], []), (["terms"], []), (["select", "--query", query], ["--split", "graph"])]:
@@ -129,14 +129,16 @@ class Forms(unittest.TestCase):
     def test_equal_terms_in_different_forms(self):
         """Literals that differ by a tag or an escape alone, and one quad in many forms, in different blocks."""
         objects = ['"chat"', '"chat"@fr', '"chat"^^<http://www.w3.org/2001/XMLSchema#string>', '"a\\u005Cb"', '"a\\\\b"', '"a\\b"', '"\\u0078"', '"x"', '"x"@EN', '"x"@en']
-        text = "".join(f"<a:s> <a:p> {o} {g} .\n" for g in ["", "<a:g>", "<a:\\u0067>", "_:g"] for o in objects * 2).encode()
-        self.same(text, file(text), sizes=["40", "90", "333", "1MiB"])
+        lines = [f"<a:s> <a:p> {o} {g} .\n" for g in ["", "<a:g>", "<a:\\u0067>", "_:g"] for o in objects * 2]
+        random.Random(7).shuffle(lines)
+        text = "".join(lines).encode()
+        self.same(text, file(text), sizes=["180", "1MiB"])
 
     def test_repeated_quads(self):
         """Quads that are in several blocks, once or more in each."""
         dice = random.Random(6)
         text = b"".join(b'<a:s%d> <a:p> "%d" .\n' % (dice.randrange(9), dice.randrange(9)) for _ in range(300))
-        self.same(text, file(text), sizes=["200", "700", "3KiB"])
+        self.same(text, file(text), sizes=["500", "3KiB"])
 
     def test_large_block(self):
         """A block of more than 8 MiB, with and without a malformed last line."""
@@ -155,20 +157,19 @@ class Forms(unittest.TestCase):
                 self.assertEqual(spq_dask([*asked, "--split", split, "--blocksize", "1MiB"], file(text))[:2], spq(asked, text))
 
     def test_many_partitions(self):
-        """More partitions than workers, and groups of several blocks."""
+        """More partitions than workers, and blocks of several pieces."""
         query = "SELECT * { GRAPH ?g { ?s ?p ?o } }"
         commands = [(["check"], []), (["terms"], []), *((["select", "--query", query], ["--split", how]) for how in ["lines", "subject", "graph"])]
         commands.append((["select", "--query", "SELECT * { GRAPH ?g { ?s ?p ?o } ?a ?b ?c }"], ["--split", "graph", "--replicate-default-graph"]))
         commands += [(["select", "--query", f"{query} LIMIT 30"], ["--split", how]) for how in ["lines", "graph"]]
-        for least, most in [(1, 1_000), (64, 1_000), (64, 3)]:
-            few = {"COUNTED": 1 << 23, "EVALUATED": 1 << 23, "MOST_PAIRS": most, "LEAST_GROUPS": least, "GROUPS": 1, "AT_ONCE": 2}
-            with mock.patch.multiple(SCRIPT, **few):
+        for many, most in [(5, 1_000), (64, 1_000), (64, 3)]:
+            with mock.patch.multiple(SCRIPT, COUNTED=1 << 23, EVALUATED=1 << 23, MOST_PAIRS=most, MANY=many, AT_ONCE=2):
                 for words, options in commands:
-                    with self.subTest(words=words, least=least, most=most):
-                        self.assertEqual(spq_dask([*words, *options, "--blocksize", "100"], file(self.TEXT)), (*spq(words, self.TEXT), ""))
+                    with self.subTest(words=words, many=many, most=most):
+                        self.assertEqual(spq_dask([*words, *options, "--blocksize", "150"], file(self.TEXT)), (*spq(words, self.TEXT), ""))
                 for words in [["check"], ["terms"]]:
                     bad = file(self.TEXT), file(self.TEXT[:1000].rpartition(b"\n")[0] + b"\nx\n"), file(self.TEXT)
-                    status, said, told = spq_dask([*words, "--blocksize", "100"], *bad)
+                    status, said, told = spq_dask([*words, "--blocksize", "200"], *bad)
                     whole = b"".join(open(path, "rb").read() for path in bad)
                     self.assertEqual((status, said), spq(words, whole))
                     line = open(bad[1], "rb").read().count(b"\n")
@@ -176,7 +177,7 @@ class Forms(unittest.TestCase):
 
     def test_no_line_feed(self):
         text = self.TEXT.replace(b"\n", b"\r")
-        self.same(text, file(text), sizes=["90", "1MiB"])
+        self.same(text, file(text))
 
 
 class Malformed(unittest.TestCase):
@@ -194,7 +195,7 @@ class Malformed(unittest.TestCase):
                 if place % 9 and words != ["check"]:
                     continue
                 with self.subTest(place=place, words=words):
-                    self.assertEqual(spq_dask([*words, *options, "--blocksize", "100"], file(text))[:2], spq(words, text))
+                    self.assertEqual(spq_dask([*words, *options, "--blocksize", "150"], file(text))[:2], spq(words, text))
 
     def test_lines_of_files_without_line_feed(self):
         said = spq_dask(["check"], file(b"# a\r# b"), file(b"# c\n# d"), file(b"\r\nx"))

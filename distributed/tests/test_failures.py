@@ -227,8 +227,8 @@ class Gone(unittest.TestCase):
     def test_worker_with_a_result(self):
         """The worker stops and then dies while its result is fetched."""
         with Client(self.address, set_as_default=False) as client, mock.patch.object(SCRIPT.Run, "compared"):
-            run = SCRIPT.Run(client, argparse.Namespace(wait=4, spq="", spq_part="", workers=1))
-            [result] = run.start(bytes, [50_000_000])
+            run = SCRIPT.Run(client, argparse.Namespace(wait=4, spq="", spq_part=""))
+            result = client.submit(bytes, 50_000_000)
             run.finish([result])
             self.worker.send_signal(signal.SIGSTOP)
             threading.Timer(2, self.worker.kill).start()

@@ -2,6 +2,7 @@
 import random
 import subprocess
 import unittest
+from concurrent.futures import ThreadPoolExecutor
 
 import documents
 import testing
@@ -60,23 +61,25 @@ def check(cut: list[bytes]) -> bytes:
 
 
 class Part(unittest.TestCase):
+    def compare(self, seed: int) -> None:
+        """Compares both commands over a random document, at random cuts, and the quads by subject and by graph name."""
+        dice = random.Random(f"part:{seed}")
+        _, statements, _ = documents.case(dice)
+        text = documents.document(dice, statements, True, ["\n"])
+        cut = blocks(dice, text)
+        self.assertEqual((0, terms(cut)), spq(["terms"], text), (seed, text))
+        self.assertEqual((0, check(cut)), spq(["check"], text), (seed, text))
+        for key in ["subject", "graph"]:
+            split = texts("split", key, str(PARTITIONS), text=text)
+            again = [part("unseal", text=one)[1] for one in split[1:]]
+            self.assertEqual(spq(["check"], b"".join(again)), spq(["check"], text), (seed, text))
+            firsts = [{line.split(b" ")[0] for line in one.splitlines()} for one in again[1:]]
+            if key == "subject":
+                self.assertEqual(len(set().union(*firsts)), sum(map(len, firsts)), (seed, text))
+
     def test_documents(self):
-        """Random documents, at random cuts: both commands, and the quads by subject and by graph name."""
-        for seed in range(40):
-            dice = random.Random(f"part:{seed}")
-            _, statements, _ = documents.case(dice)
-            text = documents.document(dice, statements, True, ["\n"])
-            cut = blocks(dice, text)
-            with self.subTest(seed=seed, text=text):
-                self.assertEqual((0, terms(cut)), spq(["terms"], text))
-                self.assertEqual((0, check(cut)), spq(["check"], text))
-                for key in ["subject", "graph"]:
-                    split = texts("split", key, str(PARTITIONS), text=text)
-                    again = [part("unseal", text=one)[1] for one in split[1:]]
-                    self.assertEqual(spq(["check"], b"".join(again)), spq(["check"], text))
-                    firsts = [{line.split(b" ")[0] for line in one.splitlines()} for one in again[1:]]
-                    if key == "subject":
-                        self.assertEqual(len(set().union(*firsts)), sum(map(len, firsts)))
+        with ThreadPoolExecutor(4) as pool:
+            list(pool.map(self.compare, range(40)))
 
     def test_forms(self):
         """A tag, an escape, an xsd:string or a capital alone, in different blocks; each term of the statements of terms."""
