@@ -866,13 +866,19 @@ def large():
 
 
 def tags():
-    """Returns cases with language tags in capitals, of which each that LANG is compared with has a note."""
-    start = "SELECT ?s { ?s <http://e/label> ?l FILTER("
+    """Returns cases with language tags in capitals, of which each that LANG, or a variable bound to it, is compared with has a note."""
+    start = "SELECT ?s { ?s <http://e/label> ?l "
     document = '<http://e/a> <http://e/label> "x"@en-US .\n'
-    for condition, found in (('LANG(?l) = "en-US"', ["en-US"]), ('"EN" != LANG(?l)', ["EN"]), ('LANG(?l) IN ("en", "en-US", "DE") || ?l = "A"@DE', ["en-US", "DE"]),
-                             ('LANG(?l) NOT IN ("FR") && STR(?l) != "FR"', ["FR"]), ('LANG(?l) = "en-us" && STR(?l) IN ("EN")', [])):
-        yield document, f"{start}{condition}) }}", [
-            f'spq: note: "{tag}" at line 1, column {len(start) + condition.index(f"{chr(34)}{tag}{chr(34)}") + 1} is never a value of LANG: '
+    for rest, found in (('FILTER(LANG(?l) = "en-US")', ["en-US"]), ('FILTER("EN" != LANG(?l))', ["EN"]),
+                        ('FILTER(LANG(?l) IN ("en", "en-US", "DE") || ?l = "A"@DE)', ["en-US", "DE"]),
+                        ('FILTER(LANG(?l) NOT IN ("FR") && STR(?l) != "FR")', ["FR"]), ('FILTER(LANG(?l) = "en-us" && STR(?l) IN ("EN"))', []),
+                        ('BIND(LANG(?l) AS ?x) FILTER(?x = "en-US" || "DE" = ?x || ?x = "en")', ["en-US", "DE"]),
+                        ('BIND(lang(?l) AS ?x) FILTER(?x NOT IN ("en", "FR")) FILTER(?l != "EN"@EN || true)', ["FR"]),
+                        ('BIND(LANG(?l) AS ?x) BIND(?x = "EN" AS ?y)', ["EN"]), ('BIND(STR(?l) AS ?x) FILTER(?x = "EN")', []),
+                        ('VALUES ?x { "EN" } FILTER(?x = "EN" && LANG(?l) = "en-us")', []),
+                        ('{ VALUES ?x { "EN" } } UNION { ?y <http://e/label> ?z BIND(LANG(?z) AS ?x) } FILTER(?x = "EN")', [])):
+        yield document, f"{start}{rest} }}", [
+            f'spq: note: "{tag}" at line 1, column {len(start) + rest.index(f"{chr(34)}{tag}{chr(34)}") + 1} is never a value of LANG: '
             f'tags are in lower case (write "{tag.lower()}")' for tag in found]
 
 

@@ -1,1 +1,3 @@
 pub mod Speaking
+pub mod Notes
+pub mod Keys

@@ -1,5 +1,6 @@
 //! The notes on rows that an error of an expression costs.
-ghost use Rattle.std.specs.Prelude.{◌≡◌};
+ghost use Rattle.std.specs.Prelude.{◌≡◌, IfOk, IfSome, string_bytes};
+ghost use Rattle.query_notes.specs.Notes.{IsNoteOf, least_of, noun_of};
 ghost use Rattle.query_notes.specs.Speaking.{speaks};
 
 use crate::outline::{Outline, Site, SiteKind};
@@ -25,52 +26,50 @@ pub fn speaks(tally: &Tally) -> bool
     !tally.cause.is_common() || tally.is_everywhere
 }
 
-/// Appends the number of rows.
-fn push_number(out: &mut String, tally: &Tally) -> Result<(), AllocError> {
-    let rows = tally.rows;
-    let least = if tally.is_partial { "at least " } else { "" };
-    let noun = if rows == 1 { "row" } else { "rows" };
-    write!(out, "{least}{rows} {noun} ")
+/// Returns the words for rows that may not be all.
+fn least_of(is_partial: bool) -> &'static str
+    ensures words { result.now ≡ least_of is_partial }
+{
+    if is_partial { "at least " } else { "" }
 }
 
-/// Appends what the rows lose.
-fn push_consequence(
-    out: &mut String,
+/// Returns the noun after a number of rows.
+fn noun_of(rows: u64) -> &'static str
+    ensures words { result.now ≡ noun_of rows }
+{
+    if rows == 1 { "row" } else { "rows" }
+}
+
+/// Returns what one row of an expression loses, or more than one.
+fn loss_of(kind: SiteKind, is_mixed: bool) -> (&'static str, &'static str) {
+    match kind {
+        SiteKind::Filter | SiteKind::Removal if is_mixed => (
+            "is left out, or removes nothing in MINUS",
+            "are left out, or remove nothing in MINUS",
+        ),
+        SiteKind::Filter => ("is left out", "are left out"),
+        SiteKind::Removal => ("removes nothing", "remove nothing"),
+        SiteKind::Optional => ("is treated as no match", "are treated as no match"),
+        SiteKind::Bind => ("leaves", "leave"),
+    }
+}
+
+/// Returns what the rows of a tally lose.
+fn consequence(
     alloc: Global,
-    text: &Text<'_>,
+    text: &Text,
     site: &Site,
     tally: &Tally,
     is_mixed: bool,
-) -> Result<(), AllocError> {
-    let is_one = tally.rows == 1;
-    match site.kind {
-        SiteKind::Filter | SiteKind::Removal if is_mixed => out.push_str(if is_one {
-            "is left out, or removes nothing in MINUS"
-        } else {
-            "are left out, or remove nothing in MINUS"
-        }),
-        SiteKind::Filter => out.push_str(if is_one {
-            "is left out"
-        } else {
-            "are left out"
-        }),
-        SiteKind::Removal => out.push_str(if is_one {
-            "removes nothing"
-        } else {
-            "remove nothing"
-        }),
-        SiteKind::Optional => out.push_str(if is_one {
-            "is treated as no match"
-        } else {
-            "are treated as no match"
-        }),
-        SiteKind::Bind => {
-            out.push_str(if is_one { "leaves " } else { "leave " })?;
-            if let Some(at) = site.variable {
-                text.push_token(out, alloc, at)?;
-            }
-            out.push_str(" unbound")
+) -> Result<String, AllocError> {
+    let (one, many) = loss_of(site.kind, is_mixed);
+    let loss = if tally.rows == 1 { one } else { many };
+    match site.variable {
+        Some(at) => {
+            let variable = text.written(alloc, at)?;
+            format!(in alloc; "{loss} {variable} unbound")
         }
+        None => String::from_str(alloc, loss),
     }
 }
 
@@ -86,11 +85,14 @@ fn push_datatype(out: &mut String, iri: &str) -> Result<(), AllocError> {
 fn push_variable(
     out: &mut String,
     alloc: Global,
-    text: &Text<'_>,
+    text: &Text,
     number: usize,
 ) -> Result<(), AllocError> {
     match text.variable(alloc, number)? {
-        Some(at) => text.push_token(out, alloc, at),
+        Some(at) => {
+            let variable = text.written(alloc, at)?;
+            out.push_str(variable.as_str())
+        }
         None => Ok(()),
     }
 }
@@ -99,7 +101,7 @@ fn push_variable(
 fn push_cause(
     out: &mut String,
     alloc: Global,
-    text: &Text<'_>,
+    text: &Text,
     cause: &Cause,
 ) -> Result<(), AllocError> {
     match cause {
@@ -142,35 +144,39 @@ fn push_cause(
     }
 }
 
-/// Appends the places of the FILTER or BIND of a tally, in all expressions that it counts. Returns
-/// the first of these expressions.
-fn push_places<'a>(
-    out: &mut String,
-    text: &Text<'_>,
+/// Returns the first expression of a tally, with the places of its FILTER or BIND in all expressions that the
+/// tally counts. Returns None if no place is known.
+fn places_of<'a>(
+    alloc: Global,
     outline: &'a Outline,
     tally: &Tally,
-) -> Result<Option<&'a Site>, AllocError> {
+) -> Result<Option<(&'a Site, String)>, AllocError> {
+    let mut places = String::new(alloc);
     let mut first = None;
     for number in &tally.expressions {
         if let Some(site) = outline.sites.get(*number) {
             if let Some(at) = site.keywords.get(tally.filter) {
-                out.push_str(if first.is_some() {
+                places.push_str(if first.is_some() {
                     ", "
                 } else {
                     keyword_of(site)
                 })?;
-                text.push_place(out, *at)?;
+                let position = outline.text.position(*at);
+                write!(places, "{position}")?;
                 first = Some(first.unwrap_or(site));
             }
         }
     }
-    Ok(first)
+    match first {
+        Some(site) => Ok(Some((site, places))),
+        None => Ok(None),
+    }
 }
 
 fn keyword_of(site: &Site) -> &'static str {
     match site.kind {
-        SiteKind::Bind => "spq: note: BIND at ",
-        SiteKind::Filter | SiteKind::Removal | SiteKind::Optional => "spq: note: FILTER at ",
+        SiteKind::Bind => "BIND at ",
+        SiteKind::Filter | SiteKind::Removal | SiteKind::Optional => "FILTER at ",
     }
 }
 
@@ -182,25 +188,29 @@ fn is_mixed(outline: &Outline, tally: &Tally, first: &Site) -> bool {
     })
 }
 
-/// Returns the note for a tally, or an empty text if its place is not known.
+/// Returns the note for a tally. Returns None if its place is not known.
 ///
 /// # Errors
 /// `AllocError` if an allocation fails.
 pub fn note_of(
     alloc: Global,
-    text: &Text<'_>,
     outline: &Outline,
     tally: &Tally,
-) -> Result<String, AllocError> {
-    let mut out = String::new(alloc);
-    if let Some(site) = push_places(&mut out, text, outline, tally)? {
-        out.push_str(": ")?;
-        let is_mixed = is_mixed(outline, tally, site);
-        push_number(&mut out, tally)?;
-        push_consequence(&mut out, alloc, text, site, tally, is_mixed)?;
-        out.push_str(", since ")?;
-        push_cause(&mut out, alloc, text, &tally.cause)?;
-        out.push_str("\n")?;
-    }
-    Ok(out)
+) -> Result<Option<String>, AllocError>
+    ensures note { IfOk result (λ found. IfSome found (λ s. IsNoteOf tally.now (string_bytes s))) }
+{
+    let Some((site, places)) = places_of(alloc, outline, tally)? else {
+        return Ok(None);
+    };
+    let is_mixed = is_mixed(outline, tally, site);
+    let loss = consequence(alloc, &outline.text, site, tally, is_mixed)?;
+    let mut reason = String::new(alloc);
+    push_cause(&mut reason, alloc, &outline.text, &tally.cause)?;
+    let rows = tally.rows;
+    let least = least_of(tally.is_partial);
+    let noun = noun_of(rows);
+    let note = format!(in alloc;
+        "spq: note: {places}: {least}{rows} {noun} {loss}, since {reason}\n"
+    )?;
+    Ok(Some(note))
 }

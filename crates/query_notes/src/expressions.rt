@@ -1,37 +1,27 @@
-//! The counts for an evaluation of a query.
-use crate::outline::{Outline, outline_of_tokens};
-use expression_errors::{ErrorCounts, Key, Owner, digest_of};
+//! The keys by which the errors of a query's expressions are counted.
+ghost use Rattle.std.specs.Prelude.{All, IfOk};
+ghost use Rattle.query_notes.specs.Keys.{IsKeyOf};
+
+use crate::outline::Outline;
+use expression_errors::{Key, Owner, digest_of};
 use sparql_algebra::{Operator, Plan};
-use sparql_lexer::{characters_of, scan_text};
 use std::alloc::{AllocError, Global};
 
-/// Returns the outline of the query with this text.
+/// Returns the keys of the expressions of a plan, which is that of the query with this outline. Errors are counted
+/// by them.
 ///
 /// # Errors
 /// `AllocError` if an allocation fails.
-pub fn outline_of(alloc: Global, text: &str) -> Result<Outline, AllocError> {
-    let characters = characters_of(alloc, text)?;
-    let scan = scan_text(alloc, &characters)?;
-    outline_of_tokens(alloc, &scan.tokens)
-}
-
-/// Returns the counts for an evaluation of a plan, which is that of the query with this outline.
-///
-/// # Errors
-/// `AllocError` if an allocation fails.
-pub fn counts_of(alloc: Global, outline: &Outline, plan: &Plan) -> Result<ErrorCounts, AllocError> {
+pub fn keys_of(alloc: Global, outline: &Outline, plan: &Plan) -> Result<Vec<Key>, AllocError>
+    ensures keys { IfOk result (λ keys. All (IsKeyOf outline.now.sites.items) keys.items) }
+{
     let digests = digests(alloc, &plan.tree)?;
-    ErrorCounts::new(alloc, keys(alloc, outline, &digests)?)
-}
-
-/// Returns the keys of the expressions, given their digests from the last to the first.
-fn keys(alloc: Global, outline: &Outline, digests: &[u64]) -> Result<Vec<Key>, AllocError> {
     let mut keys = Vec::new(alloc);
-    for (site, digest) in outline.sites.iter().enumerate().zip(digests.iter().rev()) {
+    for number in 0..outline.sites.len().min(digests.len()) {
         keys.push(Key {
-            digest: *digest,
-            expression: site.0,
-            filters: site.1.keywords.len(),
+            digest: digests[digests.len() - 1 - number],
+            expression: number,
+            filters: outline.sites[number].keywords.len(),
         })?;
     }
     Ok(keys)

@@ -1,17 +1,27 @@
 //! The notes on parts of a query that find nothing, whatever the rows are.
+ghost use Rattle.std.specs.Prelude.{All, IfOk, OnOk, string_bytes};
+ghost use Rattle.query_notes.specs.Notes.{IsNote};
+
 use crate::outline::Outline;
 use crate::texts::Text;
 use sparql_lexer::{Keyword, Kind, Sign};
 use std::alloc::{AllocError, Global};
 
 /// Returns the number of terminals before the query's group.
-fn group_start(text: &Text<'_>) -> usize {
-    for at in 0..text.tokens.len() {
-        if text.tokens[at].kind == Kind::Sign(Sign::OpenBrace) {
+fn group_start(text: &Text) -> usize {
+    for at in 0..text.terminals.len() {
+        if text.terminals[at].kind == Kind::Sign(Sign::OpenBrace) {
             return at;
         }
     }
-    text.tokens.len()
+    text.terminals.len()
+}
+
+/// Returns the note with these words.
+fn note(alloc: Global, words: &str) -> Result<String, AllocError>
+    ensures note { IfOk result (λ note. IsNote (string_bytes note)) }
+{
+    format!(in alloc; "spq: note: {words}\n")
 }
 
 /// Appends a note for each variable that occurs only in expressions, and for each selected variable
@@ -20,27 +30,35 @@ fn group_start(text: &Text<'_>) -> usize {
 /// # Errors
 /// `AllocError` if an allocation fails.
 pub fn push_variables(
-    out: &mut String,
+    notes: &mut Vec<String>,
     alloc: Global,
-    text: &Text<'_>,
     outline: &Outline,
-) -> Result<(), AllocError> {
-    let start = group_start(text);
+) -> Result<(), AllocError>
+    requires notes { All (λ note. IsNote (string_bytes note)) notes.old.items }
+    ensures notes { OnOk result (All (λ note. IsNote (string_bytes note)) notes.new.items) }
+{
+    let unbound = unbound_variables(alloc, outline)?;
+    for (at, reason) in &unbound {
+        notes.push(unbound_note(alloc, &outline.text, *at, *reason)?)?;
+    }
+    Ok(())
+}
+
+/// Returns the first places of the variables that are never bound, in the order of the text.
+fn unbound_variables(alloc: Global, outline: &Outline) -> Result<Vec<(usize, Reason)>, AllocError> {
+    let start = group_start(&outline.text);
     let mut unbound = Vec::new(alloc);
-    for occurrences in places_by_name(alloc, text)? {
+    for occurrences in places_by_name(alloc, &outline.text)? {
         if let Some(variable) = unbound_at(&occurrences, outline, start) {
             unbound.push(variable)?;
         }
     }
     unbound.sort()?;
-    for (at, reason) in &unbound {
-        push_unbound(out, alloc, text, *at, *reason)?;
-    }
-    Ok(())
+    Ok(unbound)
 }
 
 /// Returns the places of each variable, in the order of the text.
-fn places_by_name(alloc: Global, text: &Text<'_>) -> Result<Vec<Vec<usize>>, AllocError> {
+fn places_by_name(alloc: Global, text: &Text) -> Result<Vec<Vec<usize>>, AllocError> {
     let sorted = text.sorted_variables(alloc)?;
     let mut names: Vec<Vec<usize>> = Vec::new(alloc);
     let mut last: &[char] = &[];
@@ -86,22 +104,19 @@ fn unbound_at(places: &[usize], outline: &Outline, start: usize) -> Option<(usiz
     }
 }
 
-fn push_unbound(
-    out: &mut String,
-    alloc: Global,
-    text: &Text<'_>,
-    at: usize,
-    reason: Reason,
-) -> Result<(), AllocError> {
-    out.push_str("spq: note: ")?;
-    text.push_token(out, alloc, at)?;
-    out.push_str(" at ")?;
-    text.push_place(out, at)?;
-    out.push_str(match reason {
-        Reason::Selected => " is selected and occurs nowhere in the pattern\n",
-        Reason::Once => " occurs nowhere else, so it is never bound\n",
-        Reason::InExpressions => " occurs only in expressions, so it is never bound\n",
-    })
+/// Returns the note on a variable that is never bound.
+fn unbound_note(alloc: Global, text: &Text, at: usize, reason: Reason) -> Result<String, AllocError>
+    ensures note { IfOk result (λ note. IsNote (string_bytes note)) }
+{
+    let variable = text.written(alloc, at)?;
+    let place = text.position(at);
+    let reason = match reason {
+        Reason::Selected => "is selected and occurs nowhere in the pattern",
+        Reason::Once => "occurs nowhere else, so it is never bound",
+        Reason::InExpressions => "occurs only in expressions, so it is never bound",
+    };
+    let words = format!(in alloc; "{variable} at {place} {reason}")?;
+    note(alloc, words.as_str())
 }
 
 /// Appends the note on patterns outside of GRAPH over an empty default graph.
@@ -109,138 +124,216 @@ fn push_unbound(
 /// # Errors
 /// `AllocError` if an allocation fails.
 pub fn push_graphs(
-    out: &mut String,
-    text: &Text<'_>,
+    notes: &mut Vec<String>,
+    alloc: Global,
     outline: &Outline,
     is_named_only: bool,
-) -> Result<(), AllocError> {
-    match outline.pattern {
-        Some(at) if is_named_only => {
-            out.push_str("spq: note: the pattern at ")?;
-            text.push_place(out, at)?;
-            out.push_str(
-                " finds nothing: it is outside of GRAPH, and all quads are in named graphs\n",
-            )
+) -> Result<(), AllocError>
+    requires notes { All (λ note. IsNote (string_bytes note)) notes.old.items }
+    ensures notes { OnOk result (All (λ note. IsNote (string_bytes note)) notes.new.items) }
+{
+    if let Some(at) = outline.pattern {
+        if is_named_only {
+            notes.push(pattern_note(alloc, &outline.text, at)?)?;
         }
-        _ => Ok(()),
     }
+    Ok(())
 }
 
-fn kind_at(text: &Text<'_>, at: usize) -> Option<Kind> {
-    match text.tokens.get(at) {
-        Some(token) => Some(token.kind),
-        None => None,
-    }
+/// Returns the note on the first pattern outside of GRAPH.
+fn pattern_note(alloc: Global, text: &Text, at: usize) -> Result<String, AllocError>
+    ensures note { IfOk result (λ note. IsNote (string_bytes note)) }
+{
+    let place = text.position(at);
+    let words = format!(in alloc;
+        "the pattern at {place} finds nothing: it is outside of GRAPH, and all quads are in named graphs"
+    )?;
+    note(alloc, words.as_str())
 }
 
-fn is_sign(text: &Text<'_>, at: usize, sign: Sign) -> bool {
-    kind_at(text, at) == Some(Kind::Sign(sign))
+fn is_keyword(text: &Text, at: usize, keyword: Keyword) -> bool {
+    text.kind_at(at) == Some(Kind::Keyword(keyword))
 }
 
-fn is_equality(text: &Text<'_>, at: usize) -> bool {
+fn is_sign(text: &Text, at: usize, sign: Sign) -> bool {
+    text.kind_at(at) == Some(Kind::Sign(sign))
+}
+
+fn is_equality(text: &Text, at: usize) -> bool {
     is_sign(text, at, Sign::Equal) || is_sign(text, at, Sign::NotEqual)
 }
 
 /// Returns whether the terminal is a short string with a capital letter.
-fn is_capital(text: &Text<'_>, at: usize) -> bool {
-    match text.tokens.get(at) {
-        Some(token) => {
-            token.kind == Kind::ShortString && token.text.iter().any(|c| c.is_ascii_uppercase())
-        }
-        None => false,
-    }
+fn is_capital(text: &Text, at: usize) -> bool {
+    text.kind_at(at) == Some(Kind::ShortString)
+        && text
+            .characters_at(at)
+            .iter()
+            .any(|c| c.is_ascii_uppercase())
 }
 
-/// Returns the place of a string with capitals that the LANG at a place is compared with.
-fn capital_tag(text: &Text<'_>, lang: usize) -> Option<usize> {
-    let after = lang.saturating_add(4);
+/// An operand of a comparison, by the places of its first and its last terminal.
+#[derive(Clone, Copy)]
+struct Operand {
+    first: usize,
+    last: usize,
+}
+
+/// Returns the place of a string with capitals that an operand is compared with.
+fn capital_tag(text: &Text, operand: Operand) -> Option<usize> {
+    let after = operand.last.saturating_add(1);
     let string = after.saturating_add(1);
-    if is_sign(text, lang.saturating_add(3), Sign::CloseParenthesis)
-        && is_equality(text, after)
-        && is_capital(text, string)
-    {
+    if is_equality(text, after) && is_capital(text, string) {
         return Some(string);
     }
-    let string = lang.checked_sub(2)?;
+    let string = operand.first.checked_sub(2)?;
     if is_equality(text, string.saturating_add(1)) && is_capital(text, string) {
         return Some(string);
     }
     None
 }
 
-/// Returns the place of the list of IN or NOT IN that the LANG at a place is looked up in.
-fn list_after(text: &Text<'_>, lang: usize) -> Option<usize> {
-    let after = lang.saturating_add(4);
-    let member = if kind_at(text, after) == Some(Kind::Keyword(Keyword::Not)) {
+/// Returns the place of the list of IN or NOT IN that an operand is looked up in.
+fn list_after(text: &Text, operand: Operand) -> Option<usize> {
+    let after = operand.last.saturating_add(1);
+    let member = if is_keyword(text, after, Keyword::Not) {
         after.saturating_add(1)
     } else {
         after
     };
-    if is_sign(text, lang.saturating_add(3), Sign::CloseParenthesis)
-        && kind_at(text, member) == Some(Kind::Keyword(Keyword::In))
-    {
-        return Some(member.saturating_add(1));
+    if is_keyword(text, member, Keyword::In) {
+        Some(member.saturating_add(1))
+    } else {
+        None
     }
-    None
 }
 
-/// Appends a note for each language tag with capitals in the list at a place.
-fn push_listed_tags(
-    out: &mut String,
-    alloc: Global,
-    text: &Text<'_>,
-    list: usize,
-) -> Result<(), AllocError> {
-    for at in list..text.tokens.len() {
+/// Adds the places of the language tags with capitals in the list at a place.
+fn add_listed_tags(tags: &mut Vec<usize>, text: &Text, list: usize) -> Result<(), AllocError> {
+    for at in list..text.terminals.len() {
         if is_sign(text, at, Sign::CloseParenthesis) {
             break;
         }
         if is_capital(text, at) {
-            push_tag(out, alloc, text, at)?;
+            tags.push(at)?;
         }
     }
     Ok(())
 }
 
-/// Appends a note for each language tag with capitals that LANG is compared with, by `=`, `!=`, IN or NOT IN.
+/// Adds the places of the language tags with capitals that an operand is compared with.
+fn add_tags(tags: &mut Vec<usize>, text: &Text, operand: Operand) -> Result<(), AllocError> {
+    if let Some(string) = capital_tag(text, operand) {
+        tags.push(string)?;
+    }
+    match list_after(text, operand) {
+        Some(list) => add_listed_tags(tags, text, list),
+        None => Ok(()),
+    }
+}
+
+/// Returns the operand that begins with the LANG at a place.
+fn call_at(text: &Text, lang: usize) -> Operand {
+    let last = lang.saturating_add(3);
+    let is_short = is_sign(text, last, Sign::CloseParenthesis);
+    Operand {
+        first: lang,
+        last: if is_short { last } else { text.terminals.len() },
+    }
+}
+
+/// Returns whether the terminals before a place are `BIND(LANG(?v) AS`, with some variable.
+fn is_bound_to_tag(text: &Text, at: usize) -> bool {
+    let Some(bind) = at.checked_sub(7) else {
+        return false;
+    };
+    is_keyword(text, bind, Keyword::Bind)
+        && is_keyword(text, bind.saturating_add(2), Keyword::Lang)
+        && is_sign(text, bind.saturating_add(5), Sign::CloseParenthesis)
+        && is_keyword(text, bind.saturating_add(6), Keyword::As)
+}
+
+/// Returns whether a variable with these places is bound only by BIND, to a LANG.
+fn is_tag(places: &[usize], outline: &Outline, start: usize) -> bool {
+    let mut is_bound = false;
+    for at in places {
+        if *at > start && outline.variables.binary_search(at).is_err() {
+            if !is_bound_to_tag(&outline.text, *at) {
+                return false;
+            }
+            is_bound = true;
+        }
+    }
+    is_bound
+}
+
+/// Appends a note for each language tag with capitals that LANG is compared with, by `=`, `!=`, IN or NOT IN, or
+/// that a variable is compared with that is bound to a LANG. They are in the order of the text.
 ///
 /// # Errors
 /// `AllocError` if an allocation fails.
-pub fn push_tags(out: &mut String, alloc: Global, text: &Text<'_>) -> Result<(), AllocError> {
-    for at in 0..text.tokens.len() {
-        if kind_at(text, at) == Some(Kind::Keyword(Keyword::Lang)) {
-            if let Some(string) = capital_tag(text, at) {
-                push_tag(out, alloc, text, string)?;
-            }
-            if let Some(list) = list_after(text, at) {
-                push_listed_tags(out, alloc, text, list)?;
+pub fn push_tags(
+    notes: &mut Vec<String>,
+    alloc: Global,
+    outline: &Outline,
+) -> Result<(), AllocError>
+    requires notes { All (λ note. IsNote (string_bytes note)) notes.old.items }
+    ensures notes { OnOk result (All (λ note. IsNote (string_bytes note)) notes.new.items) }
+{
+    let text = &outline.text;
+    let mut tags = Vec::new(alloc);
+    for at in 0..text.terminals.len() {
+        if is_keyword(text, at, Keyword::Lang) {
+            add_tags(&mut tags, text, call_at(text, at))?;
+        }
+    }
+    add_bound_tags(&mut tags, alloc, outline)?;
+    tags.sort()?;
+    for tag in &tags {
+        notes.push(tag_note(alloc, text, *tag)?)?;
+    }
+    Ok(())
+}
+
+/// Adds the places of the language tags with capitals that variables are compared with that are bound to a LANG.
+fn add_bound_tags(
+    tags: &mut Vec<usize>,
+    alloc: Global,
+    outline: &Outline,
+) -> Result<(), AllocError> {
+    let start = group_start(&outline.text);
+    for places in &places_by_name(alloc, &outline.text)? {
+        if is_tag(places, outline, start) {
+            for at in places {
+                let operand = Operand {
+                    first: *at,
+                    last: *at,
+                };
+                add_tags(tags, &outline.text, operand)?;
             }
         }
     }
     Ok(())
 }
 
-fn push_tag(
-    out: &mut String,
-    alloc: Global,
-    text: &Text<'_>,
-    string: usize,
-) -> Result<(), AllocError> {
-    out.push_str("spq: note: ")?;
-    text.push_token(out, alloc, string)?;
-    out.push_str(" at ")?;
-    text.push_place(out, string)?;
-    out.push_str(" is never a value of LANG: tags are in lower case (write ")?;
-    if let Some(token) = text.tokens.get(string) {
-        push_lower(out, token.text)?;
-    }
-    out.push_str(")\n")
+/// Returns the note on a language tag with capitals.
+fn tag_note(alloc: Global, text: &Text, at: usize) -> Result<String, AllocError>
+    ensures note { IfOk result (λ note. IsNote (string_bytes note)) }
+{
+    let tag = text.written(alloc, at)?;
+    let place = text.position(at);
+    let lower = lower_case(alloc, text.characters_at(at))?;
+    let words = format!(in alloc;
+        "{tag} at {place} is never a value of LANG: tags are in lower case (write {lower})"
+    )?;
+    note(alloc, words.as_str())
 }
 
-/// Appends characters, the ASCII letters in lower case.
-fn push_lower(out: &mut String, characters: &[char]) -> Result<(), AllocError> {
+/// Returns characters, the ASCII letters in lower case.
+fn lower_case(alloc: Global, characters: &[char]) -> Result<String, AllocError> {
+    let mut text = String::new(alloc);
     for c in characters {
-        out.push(c.to_ascii_lowercase())?;
+        text.push(c.to_ascii_lowercase())?;
     }
-    Ok(())
+    Ok(text)
 }

@@ -3,7 +3,7 @@
 //!
 //! [`outline_of`] goes over the terminals of a query once. It finds each expression in the order in
 //! which the plan has them, the variables of expressions, and the first pattern outside of GRAPH.
-//! [`counts_of`] makes the counts for an evaluation of the query. [`notes_on`] writes the notes, from
+//! [`keys_of`] names the expressions of its plan, for the counts of an evaluation. [`notes_on`] writes the notes, from
 //! the outline and the counts. All notes are one line each and begin with `spq: note: `.
 //!
 //! `speaks` of `causes` decides when a count is worth a note. Nothing here changes a result.
@@ -25,6 +25,7 @@ mod notes;
 mod outline;
 mod texts;
 
-pub use expressions::{counts_of, outline_of};
-pub use notes::notes_on;
-pub use outline::{Outline, Site, SiteKind};
+pub use expressions::keys_of;
+pub use notes::{RowNote, notes_on};
+pub use outline::{Outline, Site, SiteKind, outline_of};
+pub use texts::{Terminal, Text};

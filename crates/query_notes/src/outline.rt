@@ -1,5 +1,9 @@
 //! The expressions and patterns of a query, by its terminals.
-use sparql_lexer::{Keyword, Kind, Sign, Token};
+ghost use Rattle.std.specs.Prelude.{◌≡◌, IfOk};
+ghost use Rattle.std.specs.Str.{chars};
+
+use crate::texts::Text;
+use sparql_lexer::{Keyword, Kind, Sign};
 use std::alloc::{AllocError, Global};
 
 /// What an expression is for.
@@ -26,8 +30,9 @@ pub struct Site {
 }
 
 /// What a query has, as places in the list of its terminals.
-#[derive(Drop)]
 pub struct Outline {
+    /// The query.
+    pub text: Text,
     /// The expressions. An operator's own is after those of its left side and its right side, in
     /// this order.
     pub sites: Vec<Site>,
@@ -35,6 +40,19 @@ pub struct Outline {
     pub variables: Vec<usize>,
     /// The first terminal of a triple pattern outside of GRAPH.
     pub pattern: Option<usize>,
+}
+
+impl Drop for Outline {
+    /// Drops the outline. It is written out and not derived, so that a proof meets one call at each exit
+    /// that drops one.
+    fn drop(self) {
+        let Outline {
+            text: _,
+            sites: _,
+            variables: _,
+            pattern: _,
+        } = self;
+    }
 }
 
 /// A group that is open.
@@ -75,7 +93,9 @@ enum Part {
 #[derive(Drop)]
 struct Scanner {
     alloc: Global,
-    outline: Outline,
+    sites: Vec<Site>,
+    variables: Vec<usize>,
+    pattern: Option<usize>,
     frames: Vec<Frame>,
     opening: Opening,
     part: Part,
@@ -83,28 +103,39 @@ struct Scanner {
     depth: usize,
 }
 
-/// Returns the outline of a query with these terminals.
+/// Returns the outline of the query with this text.
 ///
 /// # Errors
 /// `AllocError` if an allocation fails.
-pub fn outline_of_tokens(alloc: Global, tokens: &[Token<'_>]) -> Result<Outline, AllocError> {
+pub fn outline_of(alloc: Global, text: &str) -> Result<Outline, AllocError>
+    ensures characters { IfOk result (λ outline. outline.text.characters.items ≡ chars text.now) }
+{
+    let text = Text::new(alloc, text)?;
     let mut scanner = Scanner {
         alloc,
-        outline: Outline {
-            sites: Vec::new(alloc),
-            variables: Vec::new(alloc),
-            pattern: None,
-        },
+        sites: Vec::new(alloc),
+        variables: Vec::new(alloc),
+        pattern: None,
         frames: Vec::new(alloc),
         opening: Opening::Group,
         part: Part::Patterns,
         depth: 0,
     };
-    for at in 0..tokens.len() {
-        scanner.read(at, tokens[at].kind)?;
+    for at in 0..text.terminals.len() {
+        scanner.read(at, text.terminals[at].kind)?;
     }
-    let Scanner { outline, .. } = scanner;
-    Ok(outline)
+    let Scanner {
+        sites,
+        variables,
+        pattern,
+        ..
+    } = scanner;
+    Ok(Outline {
+        text,
+        sites,
+        variables,
+        pattern,
+    })
 }
 
 impl Scanner {
@@ -161,8 +192,8 @@ impl Scanner {
             Some(frame) => frame.is_in_graph,
             None => true,
         };
-        if !is_in_graph && self.outline.pattern.is_none() {
-            self.outline.pattern = Some(at);
+        if !is_in_graph && self.pattern.is_none() {
+            self.pattern = Some(at);
         }
     }
 
@@ -206,7 +237,7 @@ impl Scanner {
         };
         if kind == SiteKind::Optional || !frame.filters.is_empty() {
             let Frame { filters, .. } = frame;
-            self.outline.sites.push(Site {
+            self.sites.push(Site {
                 kind,
                 keywords: filters,
                 variable: None,
@@ -229,7 +260,7 @@ impl Scanner {
         self.depth = 0;
         let mut keywords = Vec::new(self.alloc);
         keywords.push(at)?;
-        self.outline.sites.push(Site {
+        self.sites.push(Site {
             kind: SiteKind::Bind,
             keywords,
             variable: None,
@@ -240,7 +271,7 @@ impl Scanner {
     /// Reads a terminal of an expression, which ends with its last closing parenthesis.
     fn read_expression(&mut self, at: usize, kind: Kind) -> Result<(), AllocError> {
         match kind {
-            Kind::Variable => self.outline.variables.push(at)?,
+            Kind::Variable => self.variables.push(at)?,
             Kind::Sign(Sign::OpenParenthesis) => self.depth = self.depth.saturating_add(1),
             Kind::Sign(Sign::CloseParenthesis) => {
                 self.depth = self.depth.saturating_sub(1);
@@ -256,7 +287,7 @@ impl Scanner {
     fn read_target(&mut self, at: usize, kind: Kind) -> Result<(), AllocError> {
         match kind {
             Kind::Variable => {
-                if let Some(site) = self.outline.sites.last_mut() {
+                if let Some(site) = self.sites.last_mut() {
                     site.variable = Some(at);
                 }
             }

@@ -1,40 +1,106 @@
 //! Places and names in notes.
-use query_diagnosis::{offset_of, position_of};
-use sparql_lexer::{Kind, Token, text_of};
+ghost use Rattle.std.specs.Prelude.{◌≡◌, ◌<◌, IfOk, length, min, slice_index_or};
+ghost use Rattle.std.specs.Str.{chars};
+ghost use Rattle.query_diagnosis.specs.Position.{IsPosition};
+ghost use Rattle.query_notes.specs.declared.texts.Terminal.{Terminal};
+
+use query_diagnosis::{Position, offset_of, position_of};
+use sparql_lexer::{Kind, characters_of, scan_text, text_of};
 use std::alloc::{AllocError, Global};
 
-/// The text of a query and its terminals.
-#[derive(Clone, Copy)]
-pub struct Text<'a> {
-    pub characters: &'a [char],
-    pub tokens: &'a [Token<'a>],
+/// A terminal of a query, with the number of characters before it and up to its end.
+#[derive(Clone, Copy, Debug)]
+pub struct Terminal {
+    pub kind: Kind,
+    pub start: usize,
+    pub end: usize,
 }
 
-impl<'a> Text<'a> {
-    /// Appends the place of a terminal, as `line 1, column 8`.
-    pub fn push_place(&self, out: &mut String, at: usize) -> Result<(), AllocError> {
-        let offset = offset_of(self.characters, self.tokens, at);
-        let position = position_of(self.characters, offset);
-        write!(out, "{position}")
+/// The text of a query and its terminals.
+#[derive(Drop)]
+pub struct Text {
+    pub characters: Vec<char>,
+    pub terminals: Vec<Terminal>,
+}
+
+/// Returns the terminals of a text, with their places.
+fn terminals_of(alloc: Global, characters: &[char]) -> Result<Vec<Terminal>, AllocError> {
+    let scan = scan_text(alloc, characters)?;
+    let mut terminals = Vec::with_capacity(alloc, scan.tokens.len())?;
+    let mut end: usize = 0;
+    for token in &scan.tokens {
+        let rest = characters.get(end..).unwrap_or(&[]);
+        let start = end.saturating_add(offset_of(rest, &[], 0));
+        end = start.saturating_add(token.text.len());
+        terminals.push(Terminal {
+            kind: token.kind,
+            start,
+            end,
+        })?;
+    }
+    Ok(terminals)
+}
+
+impl Text {
+    /// Splits a text into its terminals.
+    ///
+    /// # Errors
+    /// `AllocError` if an allocation fails.
+    pub(crate) fn new(alloc: Global, text: &str) -> Result<Text, AllocError>
+        ensures characters { IfOk result (λ made. made.characters.items ≡ chars text.now) }
+    {
+        let characters = characters_of(alloc, text)?;
+        let terminals = terminals_of(alloc, &characters)?;
+        Ok(Text {
+            characters,
+            terminals,
+        })
     }
 
-    /// Appends the terminal at a place, as it is in the text.
-    pub fn push_token(&self, out: &mut String, alloc: Global, at: usize) -> Result<(), AllocError> {
-        match self.tokens.get(at) {
-            Some(token) => {
-                let text = text_of(alloc, token.text)?;
-                out.push_str(text.as_str())
-            }
-            None => Ok(()),
+    /// Returns the line and the column of the terminal at a place.
+    pub(crate) fn position(&self, at: usize) -> Position
+        ensures position { (other : Terminal) → at < length self.now.terminals.items
+            → IsPosition self.now.characters.items (min (slice_index_or self.now.terminals.items at other).start (length self.now.characters.items)) result }
+    {
+        let offset = match self.terminals.get(at) {
+            Some(terminal) => terminal.start,
+            None => self.characters.len(),
+        };
+        position_of(&self.characters, offset)
+    }
+
+    /// Returns the characters of the terminal at a place, or none.
+    pub(crate) fn characters_at(&self, at: usize) -> &[char] {
+        match self.terminals.get(at) {
+            Some(terminal) => self
+                .characters
+                .get(terminal.start..terminal.end)
+                .unwrap_or(&[]),
+            None => &[],
+        }
+    }
+
+    /// Returns the terminal at a place, as it is in the text.
+    ///
+    /// # Errors
+    /// `AllocError` if an allocation fails.
+    pub(crate) fn written(&self, alloc: Global, at: usize) -> Result<String, AllocError> {
+        text_of(alloc, self.characters_at(at))
+    }
+
+    /// Returns the kind of the terminal at a place.
+    pub(crate) fn kind_at(&self, at: usize) -> Option<Kind> {
+        match self.terminals.get(at) {
+            Some(terminal) => Some(terminal.kind),
+            None => None,
         }
     }
 
     /// Returns the name of the variable at a place, without its sign. Returns None for another
     /// terminal.
-    pub fn name_at(&self, at: usize) -> Option<&'a [char]> {
-        let token = self.tokens.get(at)?;
-        if token.kind == Kind::Variable {
-            token.text.get(1..)
+    pub(crate) fn name_at(&self, at: usize) -> Option<&[char]> {
+        if self.kind_at(at) == Some(Kind::Variable) {
+            self.characters_at(at).get(1..)
         } else {
             None
         }
@@ -45,9 +111,12 @@ impl<'a> Text<'a> {
     ///
     /// # Errors
     /// `AllocError` if an allocation fails.
-    pub fn sorted_variables(&self, alloc: Global) -> Result<Vec<(&'a [char], usize)>, AllocError> {
+    pub(crate) fn sorted_variables(
+        &self,
+        alloc: Global,
+    ) -> Result<Vec<(&[char], usize)>, AllocError> {
         let mut found = Vec::new(alloc);
-        for at in 0..self.tokens.len() {
+        for at in 0..self.terminals.len() {
             if let Some(name) = self.name_at(at) {
                 found.push((name, at))?;
             }
@@ -61,7 +130,11 @@ impl<'a> Text<'a> {
     ///
     /// # Errors
     /// `AllocError` if an allocation fails.
-    pub fn variable(&self, alloc: Global, number: usize) -> Result<Option<usize>, AllocError> {
+    pub(crate) fn variable(
+        &self,
+        alloc: Global,
+        number: usize,
+    ) -> Result<Option<usize>, AllocError> {
         let sorted = self.sorted_variables(alloc)?;
         let mut firsts = Vec::new(alloc);
         let mut last: &[char] = &[];

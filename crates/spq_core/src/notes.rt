@@ -2,16 +2,14 @@
 
 use dataset_load::{LoadNotes, Store};
 use expression_errors::ErrorCounts;
-use query_notes::{Outline, counts_of, outline_of};
+use query_notes::{Outline, keys_of, outline_of};
 use sparql_algebra::Plan;
 use spq_run::{Notes, Progress, Stage};
-use std::alloc::Global;
+use std::alloc::{AllocError, Global};
 
 /// The notes of a run, and the progress that it calls.
 pub(crate) struct Log<'p, P> {
     notes: Notes,
-    /// The outline of the query.
-    outline: Option<Outline>,
     progress: &'p P,
 }
 
@@ -21,7 +19,6 @@ impl<'p, P> Drop for Log<'p, P> {
     fn drop(self) {
         let Log {
             notes: _,
-            outline: _,
             progress: _,
         } = self;
     }
@@ -32,18 +29,13 @@ impl<'p, P: Progress> Log<'p, P> {
     pub(crate) fn new(progress: &'p P) -> Log<'p, P> {
         Log {
             notes: Notes::new(),
-            outline: None,
             progress,
         }
     }
 
     /// Returns what was noted.
     pub(crate) fn into_notes(self) -> Notes {
-        let Log {
-            notes,
-            outline: _,
-            progress: _,
-        } = self;
+        let Log { notes, progress: _ } = self;
         notes
     }
 
@@ -69,7 +61,7 @@ impl<'p, P: Progress> Log<'p, P> {
 
     /// Notes the query that is evaluated, and whether all quads are in named graphs.
     pub(crate) fn queried(&mut self, alloc: Global, text: &str, store: &Store) {
-        self.outline = outline_of(alloc, text).ok();
+        self.notes.outline = outline_of(alloc, text).ok();
         let is_empty = store.index().scan(None, None, None, None).is_empty();
         self.notes.is_named_only = is_empty && store.graphs() > 0;
     }
@@ -77,7 +69,7 @@ impl<'p, P: Progress> Log<'p, P> {
     /// Notes the plan that is evaluated. Without memory, or without the text of its query, the errors
     /// of its expressions are not counted.
     pub(crate) fn planned(&mut self, alloc: Global, plan: &Plan) {
-        if let Some(outline) = &self.outline {
+        if let Some(outline) = &self.notes.outline {
             self.notes.counts = counts_of(alloc, outline, plan).ok();
         }
     }
@@ -86,4 +78,9 @@ impl<'p, P: Progress> Log<'p, P> {
     pub(crate) fn counts(&self) -> Option<&ErrorCounts> {
         self.notes.counts.as_ref()
     }
+}
+
+/// Returns the counts for an evaluation of a plan, which is that of the query with this outline.
+fn counts_of(alloc: Global, outline: &Outline, plan: &Plan) -> Result<ErrorCounts, AllocError> {
+    ErrorCounts::new(alloc, keys_of(alloc, outline, plan)?)
 }

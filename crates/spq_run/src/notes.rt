@@ -4,6 +4,7 @@ use dataset_load::{Listing, LoadListener};
 use expression_errors::ErrorCounts;
 use malformed_lines::MalformedLine;
 use piece_pool::PoolFault;
+use query_notes::Outline;
 
 /// What a run is doing.
 #[derive(Clone, Copy)]
@@ -47,6 +48,8 @@ pub struct Notes {
     pub stage: Stage,
     /// The malformed lines of the document, if the number of the first one was returned and there was memory for them.
     pub malformed: Option<Listing>,
+    /// The outline of the query that was evaluated, if there was memory for it.
+    pub outline: Option<Outline>,
     /// The rows over which expressions of its query were errors, if there was memory to count them.
     pub counts: Option<ErrorCounts>,
     /// Whether all quads are in named graphs, and some are.
@@ -59,6 +62,7 @@ impl Notes {
         Notes {
             stage: Stage::Checking,
             malformed: None,
+            outline: None,
             counts: None,
             is_named_only: false,
         }
