@@ -1,5 +1,5 @@
 -- The key by which quads are split (choices of this project).
-use Rattle.std.specs.Prelude.{ℕ, ◌%◌, Option}
+use Rattle.std.specs.Prelude.{ℕ, ◌%◌, List, Option, map}
 use Rattle.std.specs.Option.{option_map}
 use Rattle.rdf_core.specs.QuadParts.{QuadParts}
 use Rattle.cluster_parts.specs.Hash.{graph_key, subject_key}
@@ -13,3 +13,7 @@ key_of Graph q = graph_key q
 -- the number of the partition that has a key; only private clauses use this definition
 abbrev pub reduced_key : ℕ → (QuadParts → Option ℕ) → QuadParts → Option ℕ
 reduced_key partitions key q = option_map (λ h. h % partitions) (key q)
+
+-- the numbers of the partitions that have these hashes; only private clauses use this definition
+abbrev pub remainders : ℕ → List ℕ → List ℕ
+remainders partitions hashes = map (λ h. h % partitions) hashes

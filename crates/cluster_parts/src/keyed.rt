@@ -4,10 +4,11 @@ ghost use Rattle.std.specs.Option.{ForSome};
 ghost use Rattle.rdf_core.specs.QuadParts.{QuadParts};
 ghost use Rattle.dict_core.specs.NumQuad.{IsBelow};
 ghost use Rattle.cluster_parts.specs.Numbered.{AreQuadsOf, end_by_number, line_by_numbers, text_at};
-ghost use Rattle.cluster_parts.specs.Parts.{has_key, is_in, quad_document, quads_in, texts_below};
+ghost use Rattle.cluster_parts.specs.Parts.{has_key, quad_document, quads_in, texts_below};
 ghost use Rattle.cluster_parts.specs.Output.{quads_part};
 
 use crate::numbering::{NumberedLines, text_of};
+use crate::partitions::is_in;
 use crate::sealing::push_sealed;
 use dict_core::NumQuad;
 use std::alloc::{AllocError, Global};
@@ -48,19 +49,6 @@ fn push_quad(out: &mut Vec<u8>, texts: &TextDict, quad: &NumQuad) -> Result<(), 
     push_spaced(out, texts, quad.o)?;
     push_end(out, texts, quad.g)?;
     Ok(())
-}
-
-/// Returns whether the partition has the key. A key below the number of partitions needs no division.
-#[tactic(auto, using(crate::proofs::RemainderLaws::remainder_below))]
-fn is_in(partitions: u64, number: u64, key: u64) -> bool
-    requires some { 0 < partitions }
-    ensures value { result ≡ is_in partitions number key }
-{
-    if key < partitions {
-        key == number
-    } else {
-        key % partitions == number
-    }
 }
 
 /// Returns whether the partition has the key, if there is one.

@@ -25,6 +25,7 @@ mod known_lines;
 pub mod laws;
 mod new_terms;
 mod numbering;
+mod partitions;
 mod quad_hashes;
 mod repeated;
 mod sealing;

@@ -1,13 +1,14 @@
 //! The parts of a block, by partition.
-ghost use Rattle.std.specs.Prelude.{◌≡◌, ◌<◌, ◌++◌, ℕ, List, length, map, IfErr, IfOk, OnOk};
+ghost use Rattle.std.specs.Prelude.{◌≡◌, ◌<◌, ◌++◌, [], if◌then◌else◌, ℕ, List, length, map, IfErr, IfOk, OnOk};
 ghost use Rattle.rdf_core.specs.QuadParts.{QuadParts};
 ghost use Rattle.nquads_core.specs.Lines.{lines};
 ghost use Rattle.nquads_core.specs.Pieces.{HaveStatements, IsFirstMalformed};
 ghost use Rattle.nquads_core.specs.declared.fault.PieceFault.TheVariants.{BadLine};
 ghost use Rattle.algebra_model.specs.Dataset.{names};
 ghost use Rattle.text_pieces.specs.Forms.{AreFormsOf};
-ghost use Rattle.cluster_parts.specs.Hash.{hash, quad_hash};
-ghost use Rattle.cluster_parts.specs.Parts.{hashes_in, number_list, texts_below};
+ghost use Rattle.cluster_parts.specs.Hash.{hash, number_bytes, quad_hash};
+ghost use Rattle.cluster_parts.specs.Keys.{remainders};
+ghost use Rattle.cluster_parts.specs.Parts.{hashes_in, is_in, number_list, texts_below};
 ghost use Rattle.cluster_parts.specs.Known.{counted_part};
 ghost use Rattle.cluster_parts.specs.Numbered.{AreQuadsOf};
 ghost use Rattle.cluster_parts.specs.Output.{check_parts};
@@ -15,6 +16,7 @@ ghost use Rattle.cluster_parts.specs.Output.{check_parts};
 use crate::graph_names::names_of;
 use crate::hashing::text_hashes;
 use crate::numbering::{NumberedLines, number_lines};
+use crate::partitions::{is_in, remainders};
 use crate::quad_hashes::quad_hashes_of;
 use crate::sealing::{push_number, push_sealed, push_sealed_number};
 use crate::term_lists::push_lines_part;
@@ -23,33 +25,53 @@ use std::alloc::{AllocError, Global};
 use std::hash::RandomState;
 use text_dict::TextDict;
 
-/// Returns the hashes of a partition, eight bytes each.
+/// Appends a hash as eight bytes, if the partition has it. `part` is the number of its partition.
+fn push_if_in(
+    out: &mut Vec<u8>,
+    hash: u64,
+    part: u64,
+    partitions: u64,
+    number: u64,
+) -> Result<(), AllocError>
+    requires some { 0 < partitions }
+    ensures appended { OnOk result (out.new.items
+        ≡ out.old.items ++ (if is_in partitions number part then number_bytes hash else [])) }
+{
+    if is_in(partitions, number, part) {
+        push_number(out, hash)?;
+    }
+    Ok(())
+}
+
+/// Returns the hashes of a partition, eight bytes each. `parts` are the numbers of the partitions of all hashes.
 fn hashes_part(
     alloc: Global,
     hashes: &[u64],
+    parts: &[u64],
     partitions: u64,
     number: u64,
 ) -> Result<Vec<u8>, AllocError>
+    requires reduced { parts.now ≡ remainders partitions hashes.now }
+    requires all { length parts.now ≡ length hashes.now }
     requires some { 0 < partitions }
     ensures list { IfOk result
         (λ text. text.items ≡ number_list (hashes_in partitions number hashes.now)) }
 {
     let mut text = Vec::new(alloc);
-    for hash in hashes {
-        if *hash % partitions == number {
-            push_number(&mut text, *hash)?;
-        }
+    for i in 0..hashes.len() {
+        push_if_in(&mut text, hashes[i], parts[i], partitions, number)?;
     }
     Ok(text)
 }
 
-/// The graph names of a block, and the hashes of its terms, names and quads.
+/// The graph names of a block, the hashes of its quads, and the numbers of the partitions of its terms, names and quads.
 #[derive(Drop)]
 struct Counting {
     names: TextDict,
-    term_hashes: Vec<u64>,
-    name_hashes: Vec<u64>,
+    term_parts: Vec<u64>,
+    name_parts: Vec<u64>,
     quad_hashes: Vec<u64>,
+    quad_parts: Vec<u64>,
 }
 
 /// Appends the part of a partition.
@@ -61,17 +83,21 @@ fn push_part(
     partitions: u64,
     number: u64,
 ) -> Result<(), AllocError>
-    requires terms { counting.now.term_hashes.items ≡ map hash terms.now.texts }
-    requires names { counting.now.name_hashes.items ≡ map hash counting.now.names.texts }
+    requires terms { counting.now.term_parts.items ≡ remainders partitions (map hash terms.now.texts) }
+    requires names { counting.now.name_parts.items ≡ remainders partitions (map hash counting.now.names.texts) }
+    requires quads { counting.now.quad_parts.items ≡ remainders partitions counting.now.quad_hashes.items }
+    requires all { length counting.now.quad_parts.items ≡ length counting.now.quad_hashes.items }
     requires some { 0 < partitions }
     ensures appended { OnOk result (out.new.items ≡ out.old.items ++ counted_part partitions terms.now.texts
         counting.now.names.texts counting.now.quad_hashes.items number) }
 {
-    let hashes = counting.term_hashes.as_slice();
-    push_lines_part(alloc, out, terms, hashes, partitions, number)?;
-    let hashes = counting.name_hashes.as_slice();
-    push_lines_part(alloc, out, &counting.names, hashes, partitions, number)?;
-    let part = hashes_part(alloc, counting.quad_hashes.as_slice(), partitions, number)?;
+    let parts = counting.term_parts.as_slice();
+    push_lines_part(alloc, out, terms, parts, partitions, number)?;
+    let parts = counting.name_parts.as_slice();
+    push_lines_part(alloc, out, &counting.names, parts, partitions, number)?;
+    let hashes = counting.quad_hashes.as_slice();
+    let parts = counting.quad_parts.as_slice();
+    let part = hashes_part(alloc, hashes, parts, partitions, number)?;
     push_sealed(out, part.as_slice())
 }
 
@@ -80,12 +106,17 @@ fn counting_of(
     alloc: Global,
     state: RandomState,
     block: &NumberedLines,
+    partitions: u64,
 ) -> Result<Counting, AllocError>
     requires read { (quads : List QuadParts) × AreQuadsOf quads block.now }
-    ensures terms { IfOk result (λ counting. counting.term_hashes.items ≡ map hash block.now.texts.texts) }
+    requires some { 0 < partitions }
+    ensures terms { IfOk result (λ counting. counting.term_parts.items ≡ remainders partitions (map hash block.now.texts.texts)) }
     ensures names { IfOk result (λ counting. (quads : List QuadParts) → AreQuadsOf quads block.now
         → AreFormsOf (names quads) counting.names.texts) }
-    ensures name_hashes { IfOk result (λ counting. counting.name_hashes.items ≡ map hash counting.names.texts) }
+    ensures name_parts { IfOk result (λ counting. counting.name_parts.items
+        ≡ remainders partitions (map hash counting.names.texts)) }
+    ensures quad_parts { IfOk result (λ counting. counting.quad_parts.items ≡ remainders partitions counting.quad_hashes.items) }
+    ensures all { IfOk result (λ counting. length counting.quad_parts.items ≡ length counting.quad_hashes.items) }
     ensures quads { IfOk result (λ counting. (quads : List QuadParts) → AreQuadsOf quads block.now
         → counting.quad_hashes.items ≡ map quad_hash quads) }
 {
@@ -93,11 +124,15 @@ fn counting_of(
     let term_hashes = text_hashes(alloc, &block.texts)?;
     let name_hashes = text_hashes(alloc, &names)?;
     let quad_hashes = quad_hashes_of(alloc, term_hashes.as_slice(), block)?;
+    let term_parts = remainders(alloc, term_hashes.as_slice(), partitions)?;
+    let name_parts = remainders(alloc, name_hashes.as_slice(), partitions)?;
+    let quad_parts = remainders(alloc, quad_hashes.as_slice(), partitions)?;
     Ok(Counting {
         names,
-        term_hashes,
-        name_hashes,
+        term_parts,
+        name_parts,
         quad_hashes,
+        quad_parts,
     })
 }
 
@@ -109,8 +144,10 @@ fn push_parts(
     counting: &Counting,
     partitions: u64,
 ) -> Result<(), AllocError>
-    requires terms { counting.now.term_hashes.items ≡ map hash terms.now.texts }
-    requires names { counting.now.name_hashes.items ≡ map hash counting.now.names.texts }
+    requires terms { counting.now.term_parts.items ≡ remainders partitions (map hash terms.now.texts) }
+    requires names { counting.now.name_parts.items ≡ remainders partitions (map hash counting.now.names.texts) }
+    requires quads { counting.now.quad_parts.items ≡ remainders partitions counting.now.quad_hashes.items }
+    requires all { length counting.now.quad_parts.items ≡ length counting.now.quad_hashes.items }
     requires some { 0 < partitions }
     ensures appended { OnOk result (out.new.items ≡ out.old.items ++ texts_below (counted_part partitions
         terms.now.texts counting.now.names.texts counting.now.quad_hashes.items) partitions) }
@@ -133,7 +170,7 @@ fn parts_of(
     ensures parts { IfOk result (λ out. (quads : List QuadParts) → AreQuadsOf quads block.now
         → out.items ≡ check_parts partitions block.now.lines quads) }
 {
-    let counting = counting_of(alloc, state, block)?;
+    let counting = counting_of(alloc, state, block, partitions)?;
     let mut out = Vec::new(alloc);
     push_sealed_number(alloc, &mut out, block.lines)?;
     push_parts(alloc, &mut out, &block.texts, &counting, partitions)?;

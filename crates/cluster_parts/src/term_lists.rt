@@ -1,10 +1,12 @@
 //! Texts, each on a line of its own, by partition.
 ghost use Rattle.std.specs.Prelude.{◌≡◌, ◌<◌, ◌++◌, [], if◌then◌else◌, map, codes, IfOk, OnOk};
 ghost use Rattle.cluster_parts.specs.Hash.{hash};
+ghost use Rattle.cluster_parts.specs.Keys.{remainders};
 ghost use Rattle.cluster_parts.specs.Parts.{is_in};
 ghost use Rattle.cluster_parts.specs.Terms.{line_list, lines_in};
 ghost use Rattle.cluster_parts.specs.Known.{lines_part};
 
+use crate::partitions::is_in;
 use crate::sealing::push_sealed;
 use std::alloc::{AllocError, Global};
 use text_dict::TextDict;
@@ -40,21 +42,21 @@ fn push_if_in(
     ensures appended { OnOk result (out.new.items
         ≡ out.old.items ++ (if is_in partitions number hash then text.now ++ codes "\n" else [])) }
 {
-    if hash % partitions == number {
+    if is_in(partitions, number, hash) {
         push_line(out, text)?;
     }
     Ok(())
 }
 
-/// Returns the texts of a partition, each on a line of its own.
+/// Returns the texts of a partition, each on a line of its own. `parts` are the numbers of their partitions.
 fn lines_of_part(
     alloc: Global,
     texts: &TextDict,
-    hashes: &[u64],
+    parts: &[u64],
     partitions: u64,
     number: u64,
 ) -> Result<Vec<u8>, AllocError>
-    requires hashed { hashes.now ≡ map hash texts.now.texts }
+    requires hashed { parts.now ≡ remainders partitions (map hash texts.now.texts) }
     requires some { 0 < partitions }
     ensures list { IfOk result
         (λ list. list.items ≡ line_list (lines_in partitions number texts.now.texts)) }
@@ -64,7 +66,7 @@ fn lines_of_part(
         push_if_in(
             &mut list,
             texts.text(n),
-            hashes[n as usize],
+            parts[n as usize],
             partitions,
             number,
         )?;
@@ -72,20 +74,20 @@ fn lines_of_part(
     Ok(list)
 }
 
-/// Appends the sealed texts of a partition.
+/// Appends the sealed texts of a partition. `parts` are the numbers of the partitions of all texts.
 pub(crate) fn push_lines_part(
     alloc: Global,
     out: &mut Vec<u8>,
     texts: &TextDict,
-    hashes: &[u64],
+    parts: &[u64],
     partitions: u64,
     number: u64,
 ) -> Result<(), AllocError>
-    requires hashed { hashes.now ≡ map hash texts.now.texts }
+    requires hashed { parts.now ≡ remainders partitions (map hash texts.now.texts) }
     requires some { 0 < partitions }
     ensures appended { OnOk result
         (out.new.items ≡ out.old.items ++ lines_part partitions texts.now.texts number) }
 {
-    let part = lines_of_part(alloc, texts, hashes, partitions, number)?;
+    let part = lines_of_part(alloc, texts, parts, partitions, number)?;
     push_sealed(out, part.as_slice())
 }

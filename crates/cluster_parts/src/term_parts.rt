@@ -6,12 +6,14 @@ ghost use Rattle.nquads_core.specs.Pieces.{HaveStatements, IsFirstMalformed};
 ghost use Rattle.nquads_core.specs.declared.fault.PieceFault.TheVariants.{BadLine};
 ghost use Rattle.dict_core.specs.Appearances.{first_appearances, terms_of};
 ghost use Rattle.cluster_parts.specs.Hash.{hash};
+ghost use Rattle.cluster_parts.specs.Keys.{remainders};
 ghost use Rattle.cluster_parts.specs.Parts.{texts_below};
 ghost use Rattle.cluster_parts.specs.Known.{lines_part, lines_parts};
 ghost use Rattle.cluster_parts.specs.Output.{terms_parts};
 
 use crate::hashing::text_hashes;
 use crate::numbering::number_lines;
+use crate::partitions::remainders;
 use crate::sealing::{push_sealed, push_sealed_number};
 use crate::term_lists::{all_lines, push_lines_part};
 use nquads_core::PieceFault;
@@ -24,16 +26,16 @@ fn push_line_parts(
     alloc: Global,
     out: &mut Vec<u8>,
     texts: &TextDict,
-    hashes: &[u64],
+    parts: &[u64],
     partitions: u64,
 ) -> Result<(), AllocError>
-    requires hashed { hashes.now ≡ map hash texts.now.texts }
+    requires hashed { parts.now ≡ remainders partitions (map hash texts.now.texts) }
     requires some { 0 < partitions }
     ensures appended { OnOk result
         (out.new.items ≡ out.old.items ++ texts_below (lines_part partitions texts.now.texts) partitions) }
 {
     for number in 0..partitions {
-        push_lines_part(alloc, out, texts, hashes, partitions, number)?;
+        push_lines_part(alloc, out, texts, parts, partitions, number)?;
     }
     Ok(())
 }
@@ -49,11 +51,12 @@ fn parts_of_texts(
     ensures parts { IfOk result (λ out. out.items ≡ lines_parts partitions count texts.now.texts) }
 {
     let hashes = text_hashes(alloc, texts)?;
+    let parts = remainders(alloc, hashes.as_slice(), partitions)?;
     let whole = all_lines(alloc, texts)?;
     let mut out = Vec::new(alloc);
     push_sealed_number(alloc, &mut out, count)?;
     push_sealed(&mut out, whole.as_slice())?;
-    push_line_parts(alloc, &mut out, texts, hashes.as_slice(), partitions)?;
+    push_line_parts(alloc, &mut out, texts, parts.as_slice(), partitions)?;
     Ok(out)
 }
 

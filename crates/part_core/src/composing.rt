@@ -320,7 +320,9 @@ fn merged(alloc: Global, input: &[u8], merging: &Merging) -> Result<Vec<u8>, Par
 /// - `Version` if another version of the program wrote the input.
 /// - `Damaged` if the input was damaged, or does not fit together.
 /// - `Query` if a rule rejects the query of `plan`, or it is not UTF-8.
-/// - `Split` if the query of `plan` cannot be evaluated on the parts of the split, or has OFFSET and no query for the parts.
+/// - `Split` if the query of `plan` does not meet the condition of the split.
+/// - `Sum` if the sum of its OFFSET and LIMIT is above the largest number.
+/// - `Offset` if its text could not be rewritten for the parts.
 /// - `Memory` if an allocation fails.
 pub fn compose(
     alloc: Global,

@@ -27,8 +27,12 @@ pub enum PartFault {
     Line,
     /// A rule rejects the query.
     Query,
-    /// The query cannot be evaluated on the parts of this split, or has OFFSET and no query for the parts.
+    /// The query cannot be evaluated on the parts of this split.
     Split,
+    /// The sum of OFFSET and LIMIT is above the largest number.
+    Sum,
+    /// The text of the query could not be rewritten for the parts.
+    Offset,
 }
 
 impl PartFault {
@@ -53,13 +57,15 @@ impl PartFault {
         }
     }
 
-    /// Returns the fault of a plan.
+    /// Returns the fault of a plan. That of a condition is `Split`.
     pub(crate) fn of_plan(fault: PlanFault) -> PartFault
         ensures no_line { (k : ℕ) → result ≡ BadLine k → ⊥ }
     {
         match fault {
             PlanFault::Query => PartFault::Query,
-            PlanFault::Offset | PlanFault::Condition => PartFault::Split,
+            PlanFault::Condition => PartFault::Split,
+            PlanFault::Sum => PartFault::Sum,
+            PlanFault::Offset => PartFault::Offset,
             PlanFault::Memory => PartFault::Memory,
         }
     }

@@ -13,7 +13,7 @@ pub fn status(fault: &PartFault) -> u8
     match fault {
         PartFault::BadLine(_) => 1,
         PartFault::Query => 2,
-        PartFault::Line | PartFault::Split => 3,
+        PartFault::Line | PartFault::Split | PartFault::Sum | PartFault::Offset => 3,
         PartFault::Memory => 4,
         PartFault::Read | PartFault::Write | PartFault::Version | PartFault::Damaged => 5,
     }
@@ -48,7 +48,7 @@ pub fn line_of(alloc: Global, fault: &PartFault) -> Result<Vec<u8>, AllocError>
         PartFault::Write => b"error: output\n",
         PartFault::Line => b"error: command line\n",
         PartFault::Query => b"error: query\n",
-        PartFault::Split => b"error: split\n",
+        PartFault::Split | PartFault::Sum | PartFault::Offset => b"error: split\n",
     };
     Vec::from_slice(alloc, text)
 }

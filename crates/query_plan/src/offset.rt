@@ -1,34 +1,57 @@
 //! The text of the query for the parts of a query with OFFSET.
 //!
-//! The text after the group is replaced by other numbers, and the result is read again. It is accepted if it has the same
-//! terminals but for those of LIMIT and OFFSET.
-ghost use Rattle.std.specs.Prelude.{◌≡◌, ◌-◌, ◌≤◌, [], List, ℕ, true, false, Some, if◌then◌else◌, is_none, length, take, IfOk};
+//! It has the terminals of the query, with other numbers after LIMIT and OFFSET, and no comments between them. It is read again,
+//! and accepted if it has the same terminals but for those of LIMIT and OFFSET.
+ghost use Rattle.std.specs.Prelude.{◌≡◌, ◌-◌, ◌≤◌, [], List, ℕ, true, false, Some, if◌then◌else◌, is_none, length, take, IfErr, IfOk};
 ghost use Rattle.std.specs.Str.{chars};
 ghost use Rattle.sparql_lexer.specs.Scan.{Scans};
 ghost use Rattle.sparql_lexer.specs.Terminal.{Terminal, terminal_of, terminals};
 ghost use Rattle.sparql_tree.specs.QueryTree.{query_of};
 ghost use Rattle.sparql_read.specs.Rejection.{IsValidQuery};
 ghost use Rattle.query_split.specs.ForParts.{for_parts};
+ghost use Rattle.query_plan.specs.Refused.{IsTextFault};
 
 use crate::planning::PlanFault;
 use itoa::Buffer;
-use sparql_lexer::{Token, characters_of, one_scan, scan_text};
+use sparql_lexer::{Token, characters_of, one_scan, scan_text, text_of};
 use sparql_read::{Query, QueryFault, one_tree, read_query};
 use std::alloc::{AllocError, Global};
 
-/// Returns the text up to the last `}`, and after it LIMIT, if there is a number, and OFFSET 0.
-fn with_numbers(alloc: Global, text: &[u8], limit: Option<u64>) -> Result<Vec<u8>, AllocError> {
-    let end = match text.iter().rposition(|byte| *byte == b'}') {
-        Some(last) => last + 1,
-        None => text.len(),
-    };
-    let mut made = Vec::from_slice(alloc, &text[..end])?;
+/// Appends the characters of a terminal, and a space.
+fn push_terminal(alloc: Global, made: &mut Vec<u8>, token: &Token<'_>) -> Result<(), AllocError> {
+    let text = text_of(alloc, token.text)?;
+    made.extend_from_slice(text.as_bytes())?;
+    made.push(b' ')?;
+    Ok(())
+}
+
+/// Returns the text of a query without this many terminals at the end, and without comments.
+fn front_of(alloc: Global, text: &str, others: usize) -> Result<Vec<u8>, AllocError> {
+    let characters = characters_of(alloc, text)?;
+    let scan = scan_text(alloc, &characters)?;
+    let front = scan.tokens.len().saturating_sub(others);
+    let mut made = Vec::new(alloc);
+    for token in &scan.tokens[..front] {
+        push_terminal(alloc, &mut made, token)?;
+    }
+    Ok(made)
+}
+
+/// Returns the text of a query with other numbers: LIMIT, if there is a number, and OFFSET 0.
+fn with_numbers(
+    alloc: Global,
+    text: &str,
+    others: usize,
+    limit: Option<u64>,
+) -> Result<Vec<u8>, AllocError> {
+    let mut made = front_of(alloc, text, others)?;
     if let Some(limit) = limit {
         let mut buffer = Buffer::new();
-        made.extend_from_slice(b" LIMIT ")?;
+        made.extend_from_slice(b"LIMIT ")?;
         made.extend_from_slice(buffer.format(limit).as_bytes())?;
+        made.push(b' ')?;
     }
-    made.extend_from_slice(b" OFFSET 0\n")?;
+    made.extend_from_slice(b"OFFSET 0\n")?;
     Ok(made)
 }
 
@@ -140,7 +163,7 @@ fn reads_for_parts(
 /// Returns the text of the query for the parts of a query with OFFSET.
 ///
 /// # Errors
-/// - `Offset` if a comment with a `}` follows the group.
+/// - `Offset` if the text that was made is not read as the query for the parts.
 /// - `Memory` if an allocation fails.
 pub(crate) fn query_without_offset(
     alloc: Global,
@@ -149,9 +172,11 @@ pub(crate) fn query_without_offset(
     kept: Option<u64>,
 ) -> Result<Vec<u8>, PlanFault>
     requires read { IsValidQuery (chars text.now) (query_of query.now) }
+    requires has_offset { is_none query.now.offset ≡ false }
     ensures read { IfOk result (λ made. IsValidQuery (chars made.items) (for_parts kept (query_of query.now))) }
+    ensures fault { IfErr result (IsTextFault (query_of query.now)) }
 {
-    let made = with_numbers(alloc, text.as_bytes(), kept)?;
+    let made = with_numbers(alloc, text, last_terminals(query.limit), kept)?;
     let Ok(other) = str::from_utf8(made.as_slice()) else {
         return Err(PlanFault::Offset);
     };

@@ -1,5 +1,5 @@
 //! Whether a query can be evaluated on the parts of a dataset, and how their results are merged.
-ghost use Rattle.std.specs.Prelude.{◌≡◌, ◌+◌, true, unwrap_or, IfOk, IfSome};
+ghost use Rattle.std.specs.Prelude.{◌≡◌, ◌+◌, None, true, false, unwrap_or, IfErr, IfOk, IfSome};
 ghost use Rattle.std.specs.Option.{option_map};
 ghost use Rattle.std.specs.Str.{chars};
 ghost use Rattle.sparql_tree.specs.QueryTree.{query_of};
@@ -7,9 +7,13 @@ ghost use Rattle.sparql_algebra.specs.AlgebraOf.{algebra_of};
 ghost use Rattle.query_split.specs.Condition.{Key, is_apart};
 ghost use Rattle.sparql_read.specs.Rejection.{IsValidQuery};
 ghost use Rattle.query_split.specs.ForParts.{for_parts, is_splittable};
+ghost use Rattle.query_split.specs.declared.split.Split.TheVariants as by;
+ghost use Rattle.query_plan.specs.Keys.{has_names};
 ghost use Rattle.query_plan.specs.Planned.{IsPlan, IsPlanOf, below_project, below_projection};
+ghost use Rattle.query_plan.specs.Refused.{IsAboveLargest, IsRefusal, IsRefusalOf, IsTextFault};
 
 use crate::condition::is_apart;
+use crate::keys::{first_graph, first_subject};
 use crate::offset::query_without_offset;
 use query_split::Split;
 use sparql_algebra::{GraphName, Operator, translate};
@@ -43,11 +47,12 @@ pub struct PartsPlan {
 pub enum PlanFault {
     /// A rule rejects the text of the query.
     Query,
-    /// The query has OFFSET, and there is no query for the parts: the sum of OFFSET and LIMIT is above the largest number,
-    /// or a comment with a `}` follows the group.
-    Offset,
-    /// The query does not meet the condition of the split.
+    /// The query does not meet the condition of the split, with any key.
     Condition,
+    /// The sum of OFFSET and LIMIT is above the largest number, 18446744073709551615, so the parts cannot have enough rows.
+    Sum,
+    /// The query has OFFSET, and its text could not be rewritten for the parts. No such text is known.
+    Offset,
     /// Out of memory.
     Memory,
 }
@@ -101,37 +106,21 @@ fn below_projection(tree: &Operator) -> &Operator
     }
 }
 
-/// Returns the first name after GRAPH.
-fn first_graph(tree: &Operator) -> Option<&GraphName> {
-    match tree {
-        Operator::Graph { name, .. } => Some(name),
-        Operator::Join { left, right } => first_graph(left).or(first_graph(right)),
-        Operator::LeftJoin { left, right, .. } => first_graph(left).or(first_graph(right)),
-        Operator::Union { left, right } => first_graph(left).or(first_graph(right)),
-        Operator::Minus { left, right } => first_graph(left).or(first_graph(right)),
-        Operator::Filter { inner, .. } => first_graph(inner),
-        Operator::Extend { inner, .. } => first_graph(inner),
-        Operator::Project { inner, .. } => first_graph(inner),
-        Operator::Distinct { inner } => first_graph(inner),
-        Operator::Pattern { .. } | Operator::Table { .. } => None,
-    }
-}
-
-/// Returns whether each solution of the tree comes from one part, with one of the variables as key.
-fn is_apart_by_variable(tree: &Operator, split: &Split, variables: usize) -> bool
+/// Returns whether each solution of the tree comes from one part, with the first subject as key.
+fn is_apart_by_subject(tree: &Operator, split: &Split) -> bool
     ensures key { result ≡ true → (key : Key) × (is_apart split.now key (algebra_of tree.now) ≡ true) }
+    ensures none { split.now ≡ by.Subject → result ≡ false → (key : Key) → is_apart split.now key (algebra_of tree.now) ≡ false }
 {
-    for variable in 0..variables {
-        if is_apart(tree, split, &GraphName::Variable(variable)) {
-            return true;
-        }
+    match first_subject(tree) {
+        Some(variable) => is_apart(tree, split, &GraphName::Variable(variable)),
+        None => false,
     }
-    false
 }
 
 /// Returns whether each solution of the tree comes from one part, with the first name after GRAPH as key.
 fn is_apart_by_name(tree: &Operator, split: &Split) -> bool
     ensures key { result ≡ true → (key : Key) × (is_apart split.now key (algebra_of tree.now) ≡ true) }
+    ensures none { has_names split.now ≡ true → result ≡ false → (key : Key) → is_apart split.now key (algebra_of tree.now) ≡ false }
 {
     match first_graph(tree) {
         Some(name) => is_apart(tree, split, name),
@@ -139,13 +128,14 @@ fn is_apart_by_name(tree: &Operator, split: &Split) -> bool
     }
 }
 
-/// Returns whether each solution of the tree comes from one part.
-fn comes_from_parts(tree: &Operator, split: &Split, variables: usize) -> bool
+/// Returns whether each solution of the tree comes from one part, with some key.
+fn comes_from_parts(tree: &Operator, split: &Split) -> bool
     ensures key { result ≡ true → (key : Key) × (is_apart split.now key (algebra_of tree.now) ≡ true) }
+    ensures none { result ≡ false → (key : Key) → is_apart split.now key (algebra_of tree.now) ≡ false }
 {
     match split {
-        Split::Lines => is_apart_by_variable(tree, split, 1),
-        Split::Subject => is_apart_by_variable(tree, split, variables),
+        Split::Lines => is_apart(tree, split, &GraphName::Variable(0)),
+        Split::Subject => is_apart_by_subject(tree, split),
         Split::Graph | Split::GraphWithDefault => is_apart_by_name(tree, split),
     }
 }
@@ -154,9 +144,11 @@ fn comes_from_parts(tree: &Operator, split: &Split, variables: usize) -> bool
 fn meets_condition(alloc: Global, query: &Query, split: &Split) -> Result<bool, AllocError>
     ensures key { IfOk result
         (λ met. met ≡ true → (key : Key) × (is_splittable split.now key (query_of query.now) ≡ true)) }
+    ensures none { IfOk result
+        (λ met. met ≡ false → (key : Key) → is_splittable split.now key (query_of query.now) ≡ false) }
 {
     let plan = translate(alloc, query)?;
-    let met = comes_from_parts(below_projection(&plan.tree), split, plan.names.len());
+    let met = comes_from_parts(below_projection(&plan.tree), split);
     drop(plan);
     Ok(met)
 }
@@ -164,6 +156,8 @@ fn meets_condition(alloc: Global, query: &Query, split: &Split) -> Result<bool, 
 /// Returns the largest number of rows of each part, or None if the sum of OFFSET and LIMIT is above the largest number.
 fn kept_rows(offset: u64, limit: Option<u64>) -> Option<Option<u64>>
     ensures sum { IfSome result (λ kept. kept ≡ option_map (λ n. offset + n) limit) }
+    ensures above { result ≡ None → IsAboveLargest offset limit }
+    ensures fits { IfSome result (λ _. IsAboveLargest offset limit → ⊥) }
 {
     match limit {
         Some(limit) => match offset.checked_add(limit) {
@@ -184,6 +178,7 @@ fn query_text(
     requires read { IsValidQuery (chars text.now) (query_of query.now) }
     requires sum { kept ≡ option_map (λ n. unwrap_or query.now.offset 0 + n) query.now.limit }
     ensures read { IfOk result (λ made. IsValidQuery (chars made.items) (for_parts kept (query_of query.now))) }
+    ensures fault { IfErr result (IsTextFault (query_of query.now)) }
 {
     match query.offset {
         Some(_) => query_without_offset(alloc, text, query, kept),
@@ -200,13 +195,14 @@ fn plan_query(
 ) -> Result<PartsPlan, PlanFault>
     requires read { IsValidQuery (chars text.now) (query_of query.now) }
     ensures plan { IfOk result (IsPlanOf split.now (query_of query.now)) }
+    ensures refused { IfErr result (IsRefusalOf split.now (query_of query.now)) }
 {
     let offset = query.offset.unwrap_or(0);
     if !meets_condition(alloc, query, split)? {
         return Err(PlanFault::Condition);
     }
     let Some(kept) = kept_rows(offset, query.limit) else {
-        return Err(PlanFault::Offset);
+        return Err(PlanFault::Sum);
     };
     let made = query_text(alloc, text, query, kept)?;
     Ok(PartsPlan {
@@ -224,12 +220,15 @@ fn plan_query(
 /// are merged.
 ///
 /// # Errors
+/// The first reason that holds:
 /// - `Query` if a rule rejects the text.
-/// - `Condition` if the query does not meet the condition of the split.
-/// - `Offset` if there is no query for the parts, because of OFFSET.
+/// - `Condition` if the query does not meet the condition of the split, with any key.
+/// - `Sum` if the sum of OFFSET and LIMIT is above the largest number.
+/// - `Offset` if the query has OFFSET, and its text could not be rewritten for the parts.
 /// - `Memory` if an allocation fails.
 pub fn plan(alloc: Global, text: &str, split: &Split) -> Result<PartsPlan, PlanFault>
     ensures plan { IfOk result (IsPlan split.now text.now) }
+    ensures refused { IfErr result (IsRefusal split.now text.now) }
 {
     match read_query(alloc, text) {
         Ok(query) => {

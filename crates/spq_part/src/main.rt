@@ -79,11 +79,25 @@ fn condition_of(words: &[String]) -> &[u8] {
     }
 }
 
-/// Writes the condition of the split to standard error.
-fn write_condition(rt: &HostRuntime) {
+/// Returns why `plan` has no plan for a query that no rule rejects, and nothing for other faults.
+fn refusal_of<'a>(fault: &PartFault, words: &'a [String]) -> &'a [u8] {
+    match fault {
+        PartFault::Split => condition_of(words),
+        PartFault::Sum => {
+            b"spq-part: the sum of OFFSET and LIMIT is above 18446744073709551615, so no part can have enough rows\n"
+        }
+        PartFault::Offset => {
+            b"spq-part: the text of this query with OFFSET could not be rewritten for the parts\n"
+        }
+        _ => b"",
+    }
+}
+
+/// Writes to standard error why `plan` has no plan for a query.
+fn write_refusal(rt: &HostRuntime, fault: &PartFault) {
     if let Ok(words) = words_of(rt) {
         let mut errors = Device { inner: rt.stderr() };
-        let _written = write_all(&mut errors, condition_of(&words));
+        let _written = write_all(&mut errors, refusal_of(fault, &words));
     }
 }
 
@@ -91,9 +105,7 @@ fn main(rt: HostRuntime) -> ExitCode {
     match run_words(&rt) {
         Ok(()) => ExitCode::from(0),
         Err(fault) => {
-            if fault == PartFault::Split {
-                write_condition(&rt);
-            }
+            write_refusal(&rt, &fault);
             if let Ok(line) = line_of(rt.alloc(), &fault) {
                 let mut writer = Device { inner: rt.stdout() };
                 let _written = write_all(&mut writer, line.as_slice());

@@ -2,7 +2,7 @@ use Rattle.std.proofs.Common.{◌++◌, ap, ◌∙◌, codes, if◌then◌else�
 use Rattle.cluster_parts.specs.Hash.{hash}
 use Rattle.cluster_parts.specs.Parts.{is_in}
 use Rattle.cluster_parts.proofs.PartSteps.{kept_more}
-use Rattle.cluster_parts.proofs.TermSteps.{text_hash_at}
+use Rattle.cluster_parts.proofs.RemainderLaws.{text_partition}
 use Rattle.cluster_parts.proofs.term_lists.lines_of_part.Goals as goal
 
 pub loop-n-preserved : goal.loop-n-preserved
@@ -11,4 +11,5 @@ loop-n-preserved c =
     kept_more (λ text. text ++ codes "\n") (λ text. is_in c.args.partitions c.args.number (hash text)) c.args.texts.now.texts c.loop-n.n t c.loop-n.list.items c.push_if_in.new.out.items
     c.text.ensures.value c.loop-n.invariant
     (c.in_ok-push_if_in.ensures.appended
-    ∙ ap (λ h. c.loop-n.list.items ++ (if is_in c.args.partitions c.args.number h then t ++ codes "\n" else [])) (text_hash_at c.args.texts.now.texts c.args.hashes.now c.loop-n.n t c.text.ensures.value c.requires.hashed))
+    ∙ ap (λ b. c.loop-n.list.items ++ (if b then t ++ codes "\n" else []))
+    (text_partition c.args.partitions c.requires.some c.args.number c.args.texts.now.texts c.args.parts.now c.loop-n.n t c.text.ensures.value c.requires.hashed))
