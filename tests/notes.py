@@ -816,7 +816,7 @@ def daily_queries():
     yield [labels, ("optional", [having((SEE, "h"))], None), where(*compare("=", "title", value_of("Gain 3")))], 2
     yield [having((TYPE, "t"), (SEE, "h")), where(*compare("!=", "t", "h"))], 0
     yield [("group", [having((MINIMUM, "n"))]), ("group", [having((DEFAULT, "m"), subject="q")]), where(*compare("=", "n", "m"))], 1
-    yield [("group", [labels]), ("group", [having((LABEL, "m"), subject="q")]), where(*compare("=", "l", "m"))], 1
+    yield [("group", [labels]), ("group", [having((LABEL, "m"), subject="q")]), where(*compare("=", "l", "m"))], 0
     yield [labels, where("and", compare("=", ("LANG", var("l")), value_of("en")), compare("!=", ("STR", var("l")), value_of("")))], 0
     yield [minima, where("or", compare("<", "n", one), ("isLITERAL", var("n")))], 0
     yield [labels, where("and", compare(">=", "l", value_of("Gain 2")), compare("<", "l", value_of("Gain 5")))], 1
