@@ -162,7 +162,7 @@ class Forms(unittest.TestCase):
         commands = [(["check"], []), (["terms"], []), *((["select", "--query", query], ["--split", how]) for how in ["lines", "subject", "graph"])]
         commands.append((["select", "--query", "SELECT * { GRAPH ?g { ?s ?p ?o } ?a ?b ?c }"], ["--split", "graph", "--replicate-default-graph"]))
         commands += [(["select", "--query", f"{query} LIMIT 30"], ["--split", how]) for how in ["lines", "graph"]]
-        for many, most in [(5, 1_000), (64, 1_000), (64, 3)]:
+        for many, most in [(5, 1_000), (64, 3)]:
             with mock.patch.multiple(SCRIPT, COUNTED=1 << 23, EVALUATED=1 << 23, MOST_PAIRS=most, MANY=many, AT_ONCE=2):
                 for words, options in commands:
                     with self.subTest(words=words, many=many, most=most):

@@ -133,7 +133,7 @@ def spq_dask(words: Sequence[str], *files: str, program: Optional[str] = None, p
     return status, out.getvalue(), told.getvalue()
 
 
-def wait_for(condition, seconds: float = 30) -> None:
+def wait_for(condition, seconds: float = 120) -> None:
     """Waits until a condition holds."""
     end = time.monotonic() + seconds
     while not condition():
