@@ -16,8 +16,7 @@ pub struct Store {
 }
 
 impl Drop for Store {
-    /// Drops the terms and the index. It is written out and not derived, so that a proof meets one call at
-    /// each exit that drops a store.
+    /// Drops the terms and the index. Written by hand (docs/PROOF.md).
     fn drop(self) {
         let Store { dict: _, index: _ } = self;
     }

@@ -18,8 +18,7 @@ pub struct Dict {
 }
 
 impl Drop for Dict {
-    /// Drops the terms. It is written out and not derived, so that a proof meets one call at each exit that
-    /// drops a dictionary.
+    /// Drops the terms. Written by hand (docs/PROOF.md).
     fn drop(self) {
         let Dict { terms: _ } = self;
     }

@@ -20,8 +20,7 @@ pub struct HashedTerm {
 }
 
 impl Drop for HashedTerm {
-    /// Drops the term. It is written out and not derived, so that a proof meets one call at each exit that
-    /// drops a term.
+    /// Drops the term. Written by hand (docs/PROOF.md).
     fn drop(self) {
         let HashedTerm { hash: _, term: _ } = self;
     }

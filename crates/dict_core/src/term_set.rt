@@ -21,8 +21,7 @@ pub struct TermSet {
 }
 
 impl Drop for TermSet {
-    /// Drops the terms. It is written out and not derived, so that a proof meets one call at each exit that
-    /// drops a set.
+    /// Drops the terms. Written by hand (docs/PROOF.md).
     fn drop(self) {
         let TermSet { hashed: _ } = self;
     }

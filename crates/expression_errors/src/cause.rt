@@ -5,14 +5,11 @@ ghost use Rattle.rdf_core.specs.Equality.{term_eq};
 ghost use Rattle.expression_errors.specs.Causes.{Explains, ExplainsTruth, HasDatatype, is_common};
 ghost use Rattle.expression_errors.specs.Classes.{IsClassOf, IsKindOf, has_tag, is_float, is_float_kind, is_float_type, is_ill_formed_kind, is_ill_typed, is_name_kind, is_tagged_kind};
 
-use rdf_core::vocabulary::{XSD_BOOLEAN, XSD_DOUBLE, XSD_STRING};
+use rdf_core::vocabulary::{XSD_BOOLEAN, XSD_DOUBLE, XSD_FLOAT, XSD_STRING};
 use rdf_core::{Term, Text};
 use sparql_tree::Comparison;
 use std::alloc::{AllocError, Global};
 use term_values::{compare, truth};
-
-/// `xsd:float`.
-const XSD_FLOAT: &str = "http://www.w3.org/2001/XMLSchema#float";
 
 /// Why an expression is an error.
 #[derive(Debug, Drop, PartialEq, Eq)]

@@ -21,7 +21,7 @@ pub enum Held<'a> {
 }
 
 impl<'a> Drop for Held<'a> {
-    /// Implemented by hand. A proof then meets one call at each exit that drops a value.
+    /// Written by hand (docs/PROOF.md).
     fn drop(self) {
         match self {
             Held::Borrowed(_) | Held::Owned(_) => {}

@@ -27,8 +27,7 @@ pub struct Index {
 }
 
 impl Drop for Index {
-    /// Drops the lists. It is written out and not derived, so that a proof meets one call at each exit that
-    /// drops an index.
+    /// Drops the lists. Written by hand (docs/PROOF.md).
     fn drop(self) {
         let Index {
             gspo: _,

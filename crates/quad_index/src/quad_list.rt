@@ -26,8 +26,7 @@ pub struct QuadList {
 }
 
 impl Drop for QuadList {
-    /// Drops the quads. It is written out and not derived, so that a proof meets one call at each exit that
-    /// drops a list.
+    /// Drops the quads. Written by hand (docs/PROOF.md).
     fn drop(self) {
         let QuadList { stored: _ } = self;
     }

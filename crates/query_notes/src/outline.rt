@@ -43,8 +43,7 @@ pub struct Outline {
 }
 
 impl Drop for Outline {
-    /// Drops the outline. It is written out and not derived, so that a proof meets one call at each exit
-    /// that drops one.
+    /// Drops the outline. Written by hand (docs/PROOF.md).
     fn drop(self) {
         let Outline {
             text: _,

@@ -27,8 +27,7 @@ pub enum Term {
 }
 
 impl Drop for Term {
-    /// Drops the texts. It is written out and not derived, so that a proof meets one call at each exit
-    /// that drops a term.
+    /// Drops the texts. Written by hand (docs/PROOF.md).
     fn drop(self) {
         match self {
             Term::Blank(_)

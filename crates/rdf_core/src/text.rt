@@ -21,8 +21,7 @@ pub struct Text {
 }
 
 impl Drop for Text {
-    /// Drops the string. It is written out and not derived, so that a proof meets one call at each
-    /// exit that drops a text.
+    /// Drops the string. Written by hand (docs/PROOF.md).
     #[inline(always)]
     fn drop(self) {
         let Text { string: _ } = self;

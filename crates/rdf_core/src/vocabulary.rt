@@ -15,6 +15,9 @@ pub const XSD_DECIMAL: &str = "http://www.w3.org/2001/XMLSchema#decimal";
 /// `xsd:double`.
 pub const XSD_DOUBLE: &str = "http://www.w3.org/2001/XMLSchema#double";
 
+/// `xsd:float`.
+pub const XSD_FLOAT: &str = "http://www.w3.org/2001/XMLSchema#float";
+
 /// `rdf:langString`, the datatype of a literal with a language tag.
 pub const RDF_LANG_STRING: &str = "http://www.w3.org/1999/02/22-rdf-syntax-ns#langString";
 

@@ -24,8 +24,7 @@ pub(crate) struct TermTexts<'a> {
 }
 
 impl<'a> Drop for TermTexts<'a> {
-    /// Drops the texts. It is written out and not derived, so that a proof meets one call at each exit
-    /// that drops them.
+    /// Drops the texts. Written by hand (docs/PROOF.md).
     fn drop(self) {
         let TermTexts {
             terms: _,

@@ -109,8 +109,7 @@ pub(crate) struct TextPieces<'a> {
 }
 
 impl<'a> Drop for TextPieces<'a> {
-    /// Drops the texts. It is written out and not derived, so that a proof meets one call at each exit
-    /// that drops them.
+    /// Drops the texts. Written by hand (docs/PROOF.md).
     fn drop(self) {
         let TextPieces {
             terms: _,

@@ -21,8 +21,7 @@ pub struct Rows {
 }
 
 impl Drop for Rows {
-    /// Frees the cells. It is written out and not derived, so that a proof meets one call at each exit
-    /// that drops rows.
+    /// Frees the cells. Written by hand (docs/PROOF.md).
     fn drop(self) {
         let Rows {
             width: _,

@@ -20,8 +20,7 @@ pub(crate) struct Groups {
 }
 
 impl Drop for Groups {
-    /// Drops the table. It is written out and not derived, so that a proof meets one call at each exit
-    /// that drops a table.
+    /// Drops the table. Written by hand (docs/PROOF.md).
     fn drop(self) {
         let Groups { keys: _, groups: _ } = self;
     }

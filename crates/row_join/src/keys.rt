@@ -21,8 +21,7 @@ pub(crate) struct Keys {
 }
 
 impl Drop for Keys {
-    /// Frees the buffers. It is written out and not derived, so that a proof meets one call at each exit that drops
-    /// keys.
+    /// Frees the buffers. Written by hand (docs/PROOF.md).
     fn drop(self) {
         let Keys {
             hashing: _,

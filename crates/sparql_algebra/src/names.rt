@@ -16,7 +16,7 @@ pub struct Names {
 }
 
 impl Drop for Names {
-    /// Implemented by hand. A proof then meets one call at each exit that drops a list.
+    /// Written by hand (docs/PROOF.md).
     fn drop(self) {
         let Names { set: _ } = self;
     }

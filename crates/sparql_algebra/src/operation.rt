@@ -21,7 +21,7 @@ pub enum Operation {
 }
 
 impl Drop for Operation {
-    /// Implemented by hand. A proof then meets one call at each exit that drops an operation.
+    /// Written by hand (docs/PROOF.md).
     fn drop(self) {
         match self {
             Operation::Optional(_, _)

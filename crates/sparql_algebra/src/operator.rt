@@ -15,7 +15,7 @@ pub enum PatternTerm {
 }
 
 impl Drop for PatternTerm {
-    /// Implemented by hand. A proof then meets one call at each exit that drops a value.
+    /// Written by hand (docs/PROOF.md).
     fn drop(self) {
         match self {
             PatternTerm::Variable(_) | PatternTerm::Label(_) | PatternTerm::Term(_) => {}

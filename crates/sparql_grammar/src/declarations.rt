@@ -27,8 +27,7 @@ pub struct Declarations {
 }
 
 impl Drop for Declarations {
-    /// Drops the list and the places. It is written out and not derived, so that a proof meets one call
-    /// at each exit that drops declarations.
+    /// Drops the list and the places. Written by hand (docs/PROOF.md).
     fn drop(self) {
         let Declarations { list: _, places: _ } = self;
     }

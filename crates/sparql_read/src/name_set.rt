@@ -14,8 +14,7 @@ pub(crate) struct NameSet {
 }
 
 impl Drop for NameSet {
-    /// Drops the names. It is written out and not derived, so that a proof meets one call at each exit
-    /// that drops a set.
+    /// Drops the names. Written by hand (docs/PROOF.md).
     fn drop(self) {
         let NameSet { names: _ } = self;
     }

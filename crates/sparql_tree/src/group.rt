@@ -16,7 +16,7 @@ pub enum VarOrTerm {
 }
 
 impl Drop for VarOrTerm {
-    /// Implemented by hand. A proof then meets one call at each exit that drops a value.
+    /// Written by hand (docs/PROOF.md).
     fn drop(self) {
         match self {
             VarOrTerm::Variable(_) | VarOrTerm::Blank(_) | VarOrTerm::Term(_) => {}

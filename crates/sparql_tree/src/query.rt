@@ -13,7 +13,7 @@ pub enum Selection {
 }
 
 impl Drop for Selection {
-    /// Implemented by hand. A proof then meets one call at each exit that drops a selection.
+    /// Written by hand (docs/PROOF.md).
     fn drop(self) {
         match self {
             Selection::All | Selection::Variables(_) => {}

@@ -14,8 +14,7 @@ pub(crate) struct Log<'p, P> {
 }
 
 impl<'p, P> Drop for Log<'p, P> {
-    /// Drops the notes. It is written out and not derived, so that a proof meets one call at each exit
-    /// that drops a log.
+    /// Drops the notes. Written by hand (docs/PROOF.md).
     fn drop(self) {
         let Log {
             notes: _,

@@ -11,7 +11,7 @@ ghost use Rattle.term_values.specs.ValueShown.{value_shown};
 use crate::digits::Digits;
 use crate::number::{decimal_digits, integer_digits};
 use rdf_core::Term;
-use rdf_core::vocabulary::{XSD_BOOLEAN, XSD_DECIMAL, XSD_STRING};
+use rdf_core::vocabulary::{XSD_BOOLEAN, XSD_DECIMAL, XSD_INTEGER, XSD_STRING};
 
 /// The value of a term in a comparison.
 #[derive(Clone, Copy)]
@@ -124,7 +124,7 @@ fn ends_alike(text: &[u8], other: &[u8]) -> bool
 
 /// The IRIs of xsd:integer and of the types derived from it.
 const INTEGER_TYPES: [&str; 13] = [
-    "http://www.w3.org/2001/XMLSchema#integer",
+    XSD_INTEGER,
     "http://www.w3.org/2001/XMLSchema#nonPositiveInteger",
     "http://www.w3.org/2001/XMLSchema#negativeInteger",
     "http://www.w3.org/2001/XMLSchema#long",

@@ -12,8 +12,7 @@ pub struct Texts {
 }
 
 impl Drop for Texts {
-    /// Frees the buffers. It is written out and not derived, so that a proof meets one call at each exit that
-    /// drops texts.
+    /// Frees the buffers. Written by hand (docs/PROOF.md).
     fn drop(self) {
         let Texts { bytes: _, ends: _ } = self;
     }

@@ -15,8 +15,7 @@ pub(crate) struct NewTexts {
 }
 
 impl Drop for NewTexts {
-    /// Frees the texts and the hashes. It is written out and not derived, so that a proof meets one call at each exit that
-    /// drops them.
+    /// Frees the texts and the hashes. Written by hand (docs/PROOF.md).
     fn drop(self) {
         let NewTexts { dict: _, hashes: _ } = self;
     }
