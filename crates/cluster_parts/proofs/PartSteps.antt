@@ -1,10 +1,12 @@
 -- Steps of the loops that make the parts of a block.
-use Rattle.std.proofs.Common.{◌≡◌, ℕ, zero, suc, ◌+◌, ◌<◌, Bool, true, false, cond, nat_eq, ◌||◌, if◌then◌else◌, List, [], ◌∷◌, ◌++◌, length, map, filter, get_or, take, drop, slice_get, codes, Option, Some, None, refl, sym, ap, subst, ◌∙◌, append_assoc, append-nil, length-append, arith}
+use Rattle.std.proofs.Common.{◌≡◌, ℕ, zero, suc, ◌+◌, ◌<◌, Bool, true, false, cond, nat_eq, ◌||◌, if◌then◌else◌, List, [], ◌∷◌, ◌++◌, length, map, filter, get_or, take, drop, slice_get, codes, Option, Some, None, refl, sym, ap, subst, ◌∙◌, append_assoc, append-nil, length-append, arith, IsPermutation, IsSorted, eq-eqb, ne_eqb}
 use Rattle.std.proofs.lemmas.List.{length-map, map-append}
 use Rattle.std.specs.Prelude.{filter_map, option_to_list}
 use Rattle.std.specs.Option.{option_map, unwrap_or}
-use Rattle.std.specs.List.{AllByRecursion, IsDistinct, flat_map, cons_option, list_any}
+use Rattle.std.specs.List.{AllByRecursion, IsDistinct, dedup, flat_map, cons_option, list_any}
+use Rattle.std.specs.Ordering.{nat_cmp}
 use Rattle.std.proofs.lemmas.Bool.{eqb-true}
+use Rattle.std.proofs.lemmas.Bool.Decides.{Decides-eqb}
 use Rattle.std.proofs.lemmas.List.{take_more, get_or-map, take-append-drop}
 use Rattle.std.proofs.lemmas.Nat.{le_bytes_8}
 use Rattle.std.specs.Int.{w64, from_le_bytes, to_le_bytes}
@@ -14,6 +16,7 @@ use Rattle.std.proofs.lemmas.Option.{slice_get_within, unwrap_or-slice_get}
 use Rattle.std.proofs.lemmas.Grind.{flat_map-append}
 use Rattle.std.proofs.lemmas.List.Elements.{All-nil, filter-append, filter_map-append}
 use Rattle.std.proofs.lemmas.List.Folds.{list_any-append}
+use Rattle.std.proofs.lemmas.List.Sorted.{IsPermutation-map, length_permutation}
 use Rattle.indexmap.specs.IndexSet.{IndexSet, contains, insert_key, insert_all}
 use Rattle.rdf_core.specs.declared.term.Term.{Term}
 use Rattle.rdf_core.specs.QuadParts.{QuadParts}
@@ -22,24 +25,27 @@ use Rattle.rdf_core.proofs.TermLaws.{term_eq}
 use Rattle.nquads_core.specs.Laws.{IsNQuadsTerm, line_end}
 use Rattle.dict_core.specs.declared.num_quad.NumQuad.{NumQuad}
 use Rattle.dict_core.specs.Dict.{term_at}
+use Rattle.dict_core.specs.Equality.{quad_eq}
 use Rattle.dict_core.specs.NumQuad.{quad_at, quads_at, AreBelow, IsBelow}
 use Rattle.dict_core.proofs.InsertLaws.{insert_all-append}
 use Rattle.dict_core.proofs.AppearanceLaws.{appearances}
-use Rattle.algebra_model.specs.Bag.{IsWithoutRepeats}
+use Rattle.algebra_model.specs.Bag.{IsWithoutRepeats, without_repeats}
+use Rattle.algebra_model.proofs.RepeatLaws.{IsWithoutRepeats-without_repeats, any-without_repeats_is}
 use Rattle.algebra_model.specs.Dataset.{names}
 use Rattle.text_dict.specs.TextDict.{IsAdded}
 use Rattle.text_pieces.specs.Forms.{AreFormsOf, AreNumberedBy}
 use Rattle.text_pieces.proofs.AddingLaws.{occur_at}
 use Rattle.text_pieces.proofs.FormLaws.{inserted_form, length_forms}
+use Rattle.quad_index.specs.Laws.{same_parts}
+use Rattle.quad_index.proofs.ReadingLaws.{index_counts, index_reads}
 use Rattle.cluster_parts.specs.Hash.{graph_hash, graph_key, hash, hash_numbers, number_bytes, quad_hash, subject_key, term_hash}
 use Rattle.cluster_parts.specs.Parts.{number_list, quad_document, quad_statement, texts_below}
-use Rattle.cluster_parts.specs.Known.{AreFound}
-use Rattle.cluster_parts.specs.Output.{hash_among}
+use Rattle.cluster_parts.specs.Output.{AreHashesOf, hash_among}
 use Rattle.cluster_parts.specs.Numbered.{end_by_number, hash_by_numbers, line_by_numbers, name_hash_by_number, text_at}
 use Rattle.cluster_parts.specs.Repeated.{has, is_repeated, numbers_of, repeated_in, single}
 use Rattle.cluster_parts.specs.Seal.{all_sealed, joined_texts, seal_head, sealed}
 use Rattle.cluster_parts.proofs.AddUpLaws.{appearances_once}
-use Rattle.cluster_parts.proofs.RepeatedLaws.{not_repeated, pushed_has, repeated_again, singles_and_others}
+use Rattle.cluster_parts.proofs.RepeatedLaws.{not_repeated, repeated_again, seen_before, singles_and_others, sorted_once}
 
 -- ---- one more element of a list
 
@@ -160,6 +166,23 @@ quad_hashes quads texts numbered terms hashes h are made =
     made ∙ ap (λ l. map (hash_by_numbers l) numbered) (hashed_terms h.terms texts terms h.forms are)
     ∙ hashes_are h.terms numbered h.numbered.1 ∙ ap (map quad_hash) h.numbered.2
 
+-- the distinct quads of numbers are below, too
+pub distinct_below : (quads : List QuadParts) (texts : List (List ℕ)) (numbered index : List NumQuad) (n : ℕ) → AreNumberedBy quads texts numbered → n ≡ length texts
+    → IsPermutation (without_repeats quad_eq numbered) index → AreBelow n index
+distinct_below quads texts numbered index n h long once =
+    subst (λ m. AreBelow m index) (sym (long ∙ length_forms h.terms texts h.forms)) (index_reads quads h.terms numbered index h.numbered once).1
+
+-- their hashes are those of the distinct quads
+pub distinct_hashes : (quads : List QuadParts) (texts : List (List ℕ)) (numbered index : List NumQuad) (terms hashes : List ℕ) → AreNumberedBy quads texts numbered → terms ≡ map hash texts
+    → IsPermutation (without_repeats quad_eq numbered) index → hashes ≡ map (hash_by_numbers terms) index → AreHashesOf quads hashes
+distinct_hashes quads texts numbered index terms hashes h are once made =
+    let dict = h.terms in
+    let hashed : hashes ≡ map quad_hash (quads_at dict index) =
+    made ∙ ap (λ l. map (hash_by_numbers l) index) (hashed_terms dict texts terms h.forms are)
+    ∙ hashes_are dict index (index_reads quads dict numbered index h.numbered once).1 in
+    subst (IsPermutation (map quad_hash (without_repeats same_parts quads))) (sym hashed)
+    (IsPermutation-map quad_hash (without_repeats same_parts quads) (quads_at dict index) (index_counts quads dict numbered index h.numbered once))
+
 -- each number is that of a text
 pub numbers_below : (quads : List QuadParts) (texts : List (List ℕ)) (numbered : List NumQuad) (n : ℕ) → AreNumberedBy quads texts numbered → n ≡ length texts → AreBelow n numbered
 numbers_below quads texts numbered n h long = subst (λ m. AreBelow m numbered) (sym (long ∙ length_forms h.terms texts h.forms)) h.numbered.1
@@ -192,27 +215,31 @@ in_keys keys x n = by (list_any (nat_eq x) keys) refl
     by true e = more (list_any (nat_eq n) keys) (nat_eq n x) (λ same. ap (λ m. list_any (nat_eq m) keys) (eqb-true n x same) ∙ e)
     by false e = list_any-append (nat_eq n) keys (x ∷ []) ∙ or_false (list_any (nat_eq n) keys) (nat_eq n x)
 
-pub none_found : {S : Type 0} (seen again : IndexSet ℕ S) → seen.keys ≡ [] → again.keys ≡ [] → AreFound [] seen again
-none_found seen again e f = record {
-  all = λ n. ap (λ l. list_any (nat_eq n) l) e;
-  repeated = λ n. ap (λ l. list_any (nat_eq n) l) f;
-}
+pub none_found : {S : Type 0} (xs : List ℕ) (again : IndexSet ℕ S) → again.keys ≡ [] → (n : ℕ) → contains nat_eq again n ≡ is_repeated (take 1 xs) n
+none_found [] again e n = ap (list_any (nat_eq n)) e
+none_found (x ∷ xs) again e n = ap (list_any (nat_eq n)) e ∙ by (nat_eq n x)
+  where
+    by : (b : Bool) → false ≡ (if b then false else false)
+    by true = refl
+    by false = refl
 
--- the number was seen before
-pub found_again : {S : Type 0} (xs : List ℕ) (x : ℕ) (seen again seen' again' : IndexSet ℕ S) → AreFound xs seen again → contains nat_eq seen x ≡ true
-    → seen'.keys ≡ insert_key nat_eq seen.keys x → again'.keys ≡ insert_key nat_eq again.keys x → AreFound (xs ++ x ∷ []) seen' again'
-found_again xs x seen again seen' again' h known e f = record {
-  all = λ n. ap (λ l. list_any (nat_eq n) l) e ∙ in_keys seen.keys x n ∙ ap (λ b. b || nat_eq n x) (h.all n) ∙ pushed_has xs x n;
-  repeated = λ n. ap (λ l. list_any (nat_eq n) l) f ∙ in_keys again.keys x n ∙ ap (λ b. b || nat_eq n x) (h.repeated n) ∙ repeated_again xs x n (sym (h.all x) ∙ known);
-}
+-- one more number of an ascending list
+module _ {S : Type 0} (xs : List ℕ) (i j : ℕ) (again : IndexSet ℕ S) (up : IsSorted nat_cmp xs) (after : i ≡ j + 1) (low : i < length xs)
+    (was : (n : ℕ) → contains nat_eq again n ≡ is_repeated (take i xs) n) where
+  one_more : (n : ℕ) → is_repeated (take i xs ++ get_or xs i 0 ∷ []) n ≡ is_repeated (take (i + 1) xs) n
+  one_more n = ap (λ l. is_repeated l n) (sym (take_more xs i 0 low))
 
--- the number is new
-pub found_new : {S : Type 0} (xs : List ℕ) (x : ℕ) (seen again seen' : IndexSet ℕ S) → AreFound xs seen again → contains nat_eq seen x ≡ false
-    → seen'.keys ≡ insert_key nat_eq seen.keys x → AreFound (xs ++ x ∷ []) seen' again
-found_new xs x seen again seen' h new e = record {
-  all = λ n. ap (λ l. list_any (nat_eq n) l) e ∙ in_keys seen.keys x n ∙ ap (λ b. b || nat_eq n x) (h.all n) ∙ pushed_has xs x n;
-  repeated = λ n. h.repeated n ∙ not_repeated xs x n (sym (h.all x) ∙ new);
-}
+  pub found_again : (again' : IndexSet ℕ S) → get_or xs i 0 ≡ get_or xs j 0 → again'.keys ≡ insert_key nat_eq again.keys (get_or xs i 0)
+      → (n : ℕ) → contains nat_eq again' n ≡ is_repeated (take (i + 1) xs) n
+  found_again again' same added n =
+      let x = get_or xs i 0 in
+      ap (list_any (nat_eq n)) added ∙ in_keys again.keys x n ∙ ap (λ b. b || nat_eq n x) (was n)
+      ∙ repeated_again (take i xs) x n (seen_before xs i j up after low ∙ eq-eqb x (get_or xs j 0) same) ∙ one_more n
+
+  pub found_new : (get_or xs i 0 ≡ get_or xs j 0 → ⊥) → (n : ℕ) → contains nat_eq again n ≡ is_repeated (take (i + 1) xs) n
+  found_new other n =
+      let x = get_or xs i 0 in
+      was n ∙ not_repeated (take i xs) x n (seen_before xs i j up after low ∙ ne_eqb x (get_or xs j 0) other) ∙ one_more n
 
 -- the lists of the numbers that were found
 lists_in : (p : ℕ → Bool) (lists : List (List ℕ)) → map (λ list. number_list (filter p list)) lists ≡ map number_list (map (filter p) lists)
@@ -237,10 +264,14 @@ distinct_keys (k ∷ keys) h = (none keys h.0, distinct_keys keys h.1)
     none [] a = refl
     none (y ∷ ks) a = (λ i. a.0 i || none ks a.1 i)
 
--- the numbers that were seen, less those that were seen again
-pub single_count : {S : Type 0} (xs : List ℕ) (seen again : IndexSet ℕ S) → AreFound xs seen again → IsDistinct nat_eq seen.keys → IsDistinct nat_eq again.keys
-    → length (single xs) + length again.keys ≡ length seen.keys
-single_count xs seen again h once once' = singles_and_others xs seen.keys again.keys (distinct_keys seen.keys once) (distinct_keys again.keys once') h.all h.repeated
+-- the different numbers of an ascending list, less those that it has again
+pub single_count : {S : Type 0} (xs ys : List ℕ) (again : IndexSet ℕ S) → IsSorted nat_cmp xs → ((n : ℕ) → contains nat_eq again n ≡ is_repeated xs n) → IsDistinct nat_eq again.keys → ys ≡ dedup nat_eq xs
+    → length (single xs) + length again.keys ≡ length ys
+single_count xs ys again up same once are =
+    let all = without_repeats nat_eq xs in
+    let sides : length (single xs) + length again.keys ≡ length all =
+    singles_and_others xs all again.keys (IsWithoutRepeats-without_repeats nat_eq xs) (distinct_keys again.keys once) (λ n. any-without_repeats_is nat_eq Decides-eqb n xs) same in
+    sides ∙ sym (length_permutation all (dedup nat_eq xs) (sorted_once xs up)) ∙ ap length (sym are)
 
 -- ---- sealed texts
 

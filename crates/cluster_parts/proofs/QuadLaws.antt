@@ -1,12 +1,13 @@
 -- The distinct quads of the partitions are those of the document.
-use Rattle.std.proofs.Common.{◌≡◌, ℕ, zero, suc, ◌+◌, ◌<◌, ◌≤◌, ◌%◌, ◌==◌, Bool, true, false, cond, eqb, nat_eq, not, ◌&&◌, ◌||◌, if◌then◌else◌, List, [], ◌∷◌, ◌++◌, length, map, filter, get_or, Some, None, refl, sym, ap, ◌∙◌, ⊎_elim, arith, eq-eqb, ne_eqb, append-nil, append_assoc}
+use Rattle.std.proofs.Common.{◌≡◌, ℕ, zero, suc, ◌+◌, ◌<◌, ◌≤◌, ◌%◌, ◌==◌, Bool, true, false, cond, eqb, nat_eq, not, ◌&&◌, ◌||◌, if◌then◌else◌, List, [], ◌∷◌, ◌++◌, length, map, filter, get_or, Some, None, refl, sym, ap, subst, ◌∙◌, ⊎_elim, arith, ne_eqb, append-nil, append_assoc, eq-eqb, IsPermutation}
 use Rattle.std.proofs.lemmas.List.{get_or-map, length-map, map-append}
-use Rattle.std.specs.List.{flat_map, list_any}
+use Rattle.std.specs.List.{AllZip, flat_map, list_any}
 use Rattle.std.specs.Str.{bytes_eq}
 use Rattle.std.proofs.lemmas.Bool.{cases_Bool, false≢true, eqb-true}
 use Rattle.std.proofs.lemmas.Bool.Decides.{Decides-eqb}
 use Rattle.std.proofs.lemmas.Grind.{flat_map-append}
 use Rattle.std.proofs.lemmas.Nat.{mod_below}
+use Rattle.std.proofs.lemmas.List.Sorted.{IsPermutation-append, IsPermutation-refl, list_any-IsPermutation}
 use Rattle.std.proofs.lemmas.List.Elements.{filter-append}
 use Rattle.std.proofs.lemmas.List.Folds.{list_any-append}
 use Rattle.rdf_core.specs.QuadParts.{QuadParts}
@@ -14,18 +15,19 @@ use Rattle.nquads_core.specs.Laws.{quad_line}
 use Rattle.nquads_core.specs.Lines.{lines}
 use Rattle.dict_core.specs.Numbered.{joined}
 use Rattle.algebra_model.specs.Bag.{without_repeats}
+use Rattle.algebra_model.proofs.RepeatLaws.{any-without_repeats_is}
 use Rattle.quad_index.specs.Laws.{same_parts}
 use Rattle.quad_index.proofs.ReadingLaws.{parts_decides}
 use Rattle.cluster_parts.specs.Hash.{quad_hash}
 use Rattle.cluster_parts.specs.Parts.{has_key, hashes_in, is_in, quad_document, quads_in, texts_below}
 use Rattle.cluster_parts.specs.Repeated.{has, is_repeated, numbers_of, repeated_in, single}
-use Rattle.cluster_parts.specs.Output.{distinct_lines, hash_among}
+use Rattle.cluster_parts.specs.Output.{AreHashesOf, distinct_lines, hash_among}
 use Rattle.cluster_parts.specs.Laws.{QuadsAddUp, block_again, each_below, hashes_again, partition_again, partition_hashes}
 use Rattle.quad_index.specs.Parts.{sum_below}
 use Rattle.cluster_parts.proofs.Each.{Each, Each-filter, Each-flat_map}
 use Rattle.cluster_parts.proofs.DocumentLaws.{IsOfLine, block_quads, line_eq, lines_of_quads}
-use Rattle.cluster_parts.proofs.SetCounts.{any-filter_is, parts_add_up, sum_below-plus, sum_below-same, sum_of_parts, without_repeats-map}
-use Rattle.cluster_parts.proofs.RepeatedLaws.{both_kinds, repeated_and_has}
+use Rattle.cluster_parts.proofs.SetCounts.{any-filter_is, parts_add_up, same_length, sum_below-plus, sum_below-same, sum_of_parts, without_repeats-map}
+use Rattle.cluster_parts.proofs.RepeatedLaws.{any_hash, both_kinds, length_single, repeated_and_has, repeated_moved}
 
 none_and : (a : Bool) → false ≡ (a && false)
 none_and true = refl
@@ -73,12 +75,11 @@ singles_add_up k some hs =
     sum_below-same (λ n. length (single (hashes_in k n hs))) (λ n. length (filter (is_in k n) (single hs))) (λ n. ap length (single_filter (is_in k n) hs)) k
     ∙ sum_of_parts (λ h. h % k) k (λ h. mod_below h k some) (single hs)
 
-gathered_hashes : (k n : ℕ) (quads : List (List QuadParts)) → numbers_of (partition_hashes k quads n) ≡ hashes_in k n (map quad_hash (joined quads))
+gathered_hashes : (k n : ℕ) (hashes : List (List ℕ)) → numbers_of (partition_hashes k hashes n) ≡ hashes_in k n (numbers_of hashes)
 gathered_hashes k n [] = refl
-gathered_hashes k n (qs ∷ quads) =
-    ap (λ l. hashes_in k n (map quad_hash qs) ++ l) (gathered_hashes k n quads)
-    ∙ sym (filter-append (is_in k n) (map quad_hash qs) (map quad_hash (joined quads)))
-    ∙ ap (filter (is_in k n)) (sym (map-append quad_hash qs (joined quads)))
+gathered_hashes k n (hs ∷ hashes) =
+    ap (λ l. hashes_in k n hs ++ l) (gathered_hashes k n hashes)
+    ∙ sym (filter-append (is_in k n) hs (numbers_of hashes))
 
 -- ---- the hashes of all partitions
 
@@ -120,34 +121,34 @@ both_in : (a b c : Bool) → ((a && b) && (a && c)) ≡ (a && (b && c))
 both_in true b c = refl
 both_in false b c = refl
 
-module _ (k : ℕ) (some : 0 < k) (quads : List (List QuadParts)) where
+module _ (k : ℕ) (some : 0 < k) (hashes : List (List ℕ)) where
   abbrev all_hashes : List ℕ
-  all_hashes = map quad_hash (joined quads)
+  all_hashes = numbers_of hashes
 
   -- the hashes of a block
   abbrev of_block : ℕ → List ℕ
-  of_block block = map quad_hash (get_or quads block [])
+  of_block block = get_or hashes block []
 
   -- what `repeated` writes for a block in a partition
-  list_is : (block : ℕ) → block < length quads → (n : ℕ)
-      → get_or (repeated_in (partition_hashes k quads n)) block [] ≡ filter (is_repeated (hashes_in k n all_hashes)) (hashes_in k n (of_block block))
+  list_is : (block : ℕ) → block < length hashes → (n : ℕ)
+      → get_or (repeated_in (partition_hashes k hashes n)) block [] ≡ filter (is_repeated (hashes_in k n all_hashes)) (hashes_in k n (of_block block))
   list_is block low n =
-      let lists = partition_hashes k quads n in
-      get_or-map (filter (is_repeated (numbers_of lists))) lists block [] [] (omega (arith, low, length-map quads (λ qs. hashes_in k n (map quad_hash qs))))
-      ∙ (λ i. filter (is_repeated (gathered_hashes k n quads i)) (get_or-map (λ qs. hashes_in k n (map quad_hash qs)) quads block [] [] low i))
+      let lists = partition_hashes k hashes n in
+      get_or-map (filter (is_repeated (numbers_of lists))) lists block [] [] (omega (arith, low, length-map hashes (hashes_in k n)))
+      ∙ (λ i. filter (is_repeated (gathered_hashes k n hashes i)) (get_or-map (hashes_in k n) hashes block [] [] low i))
 
-  list_has : (block : ℕ) → block < length quads → (n h : ℕ)
-      → has (get_or (repeated_in (partition_hashes k quads n)) block []) h ≡ (eqb (h % k) n && (is_repeated all_hashes h && has (of_block block) h))
+  list_has : (block : ℕ) → block < length hashes → (n h : ℕ)
+      → has (get_or (repeated_in (partition_hashes k hashes n)) block []) h ≡ (eqb (h % k) n && (is_repeated all_hashes h && has (of_block block) h))
   list_has block low n h =
       ap (λ l. has l h) (list_is block low n)
       ∙ any-filter_is nat_eq Decides-eqb (is_repeated (hashes_in k n all_hashes)) h (hashes_in k n (of_block block))
       ∙ (λ i. repeated_filter (is_in k n) all_hashes h i && any-filter_is nat_eq Decides-eqb (is_in k n) h (of_block block) i)
       ∙ both_in (is_in k n h) (is_repeated all_hashes h) (has (of_block block) h)
 
-  block_has : (block : ℕ) → block < length quads → (h : ℕ)
-      → has (numbers_of (hashes_again k quads block)) h ≡ (is_repeated all_hashes h && has (of_block block) h)
+  block_has : (block : ℕ) → block < length hashes → (h : ℕ)
+      → has (numbers_of (hashes_again k hashes block)) h ≡ (is_repeated all_hashes h && has (of_block block) h)
   block_has block low h =
-      all_parts k some (λ h. is_repeated all_hashes h && has (of_block block) h) (λ n. get_or (repeated_in (partition_hashes k quads n)) block []) (list_has block low) h
+      all_parts k some (λ h. is_repeated all_hashes h && has (of_block block) h) (λ n. get_or (repeated_in (partition_hashes k hashes n)) block []) (list_has block low) h
 
   -- the hashes that occur again, of all blocks
   abbrev repeated_all : List ℕ
@@ -183,18 +184,33 @@ module _ (hashes : List ℕ) (k : ℕ) where
 
 -- ---- the lines that are read again
 
--- a quad of the block has its hash there
-own_hash : (qs : List QuadParts) → Each (λ q. has (map quad_hash qs) (quad_hash q) ≡ true) qs
-own_hash [] = tt
-own_hash (q ∷ qs) = (ap (λ b. b || has (map quad_hash qs) (quad_hash q)) (eq-eqb (quad_hash q) (quad_hash q) refl), later qs (own_hash qs))
+-- a quad of the block is there
+own_quad : (qs : List QuadParts) → Each (λ q. list_any (same_parts q) qs ≡ true) qs
+own_quad [] = tt
+own_quad (q ∷ qs) = (ap (λ b. b || list_any (same_parts q) qs) ((parts_decides q q).1 refl), later qs (own_quad qs))
   where
     right : (a b : Bool) → b ≡ true → (a || b) ≡ true
     right true b e = refl
     right false b e = e
 
-    later : (rs : List QuadParts) → Each (λ r. has (map quad_hash qs) (quad_hash r) ≡ true) rs → Each (λ r. has (map quad_hash (q ∷ qs)) (quad_hash r) ≡ true) rs
+    later : (rs : List QuadParts) → Each (λ r. list_any (same_parts r) qs ≡ true) rs → Each (λ r. list_any (same_parts r) (q ∷ qs) ≡ true) rs
     later [] h = tt
-    later (r ∷ rs) h = (right (nat_eq (quad_hash r) (quad_hash q)) (has (map quad_hash qs) (quad_hash r)) h.0, later rs h.1)
+    later (r ∷ rs) h = (right (same_parts r q) (list_any (same_parts r) qs) h.0, later rs h.1)
+
+-- the hash of a quad of the block is among those of its distinct quads
+own_hash : (qs : List QuadParts) (hs : List ℕ) → AreHashesOf qs hs → Each (λ q. has hs (quad_hash q) ≡ true) qs
+own_hash qs hs are = by qs (own_quad qs)
+  where
+    once : List QuadParts
+    once = without_repeats same_parts qs
+
+    by : (rs : List QuadParts) → Each (λ r. list_any (same_parts r) qs ≡ true) rs → Each (λ r. has hs (quad_hash r) ≡ true) rs
+    by [] h = tt
+    by (r ∷ rs) h = (
+      sym (list_any-IsPermutation (nat_eq (quad_hash r)) (map quad_hash once) hs are)
+          ∙ any_hash same_parts parts_decides quad_hash r once (any-without_repeats_is same_parts parts_decides r qs ∙ h.0),
+      by rs h.1,
+    )
 
 -- the quads of a block that have one of the hashes, if the lists have the same hashes of the block
 same_quads : (few all hs : List ℕ) (k n : ℕ) → ((h : ℕ) → has few h ≡ (has all h && has hs h)) → (rs : List QuadParts) → Each (λ r. has hs (quad_hash r) ≡ true) rs
@@ -241,59 +257,108 @@ each_block [] good block = tt
 each_block (qs ∷ quads) good zero = good.0
 each_block (qs ∷ quads) good (suc block) = each_block quads good.1 block
 
-module _ (k : ℕ) (some : 0 < k) (quads : List (List QuadParts)) (good : Each (Each IsOfLine) quads) where
+-- the hashes of each block
+zip_at : (quads : List (List QuadParts)) (hashes : List (List ℕ)) → AllZip AreHashesOf quads hashes → (block : ℕ) → block < length quads
+    → (block < length hashes) × AreHashesOf (get_or quads block []) (get_or hashes block [])
+zip_at [] hashes h block low = absurd (omega (arith, low))
+zip_at (qs ∷ quads) [] h block low = elim h [ ]
+zip_at (qs ∷ quads) (hs ∷ hashes) h zero low = (omega arith, h.0)
+zip_at (qs ∷ quads) (hs ∷ hashes) h (suc block) low =
+    let rest = zip_at quads hashes h.1 block (omega (arith, low)) in
+    let below = rest.0 in
+    (omega (arith, below), rest.1)
+
+module _ (k : ℕ) (some : 0 < k) (quads : List (List QuadParts)) (good : Each (Each IsOfLine) quads) (hashes : List (List ℕ)) (are : AllZip AreHashesOf quads hashes) where
   -- what is read again of a block
   abbrev of_all : ℕ → List QuadParts → List QuadParts
-  of_all n qs = quads_in (hash_among (repeated_all k some quads)) k n qs
+  of_all n qs = quads_in (hash_among (repeated_all k some hashes)) k n qs
 
   block_quads_again : (n block : ℕ) → block < length quads
-      → quads_in (hash_among (numbers_of (hashes_again k quads block))) k n (get_or quads block []) ≡ of_all n (get_or quads block [])
+      → quads_in (hash_among (numbers_of (hashes_again k hashes block))) k n (get_or quads block []) ≡ of_all n (get_or quads block [])
   block_quads_again n block low =
-      same_quads (numbers_of (hashes_again k quads block)) (repeated_all k some quads) (of_block k some quads block) k n
-      (λ h. block_has k some quads block low h ∙ ap (λ b. b && has (of_block k some quads block) h) (sym (all_has k some quads h)))
-      (get_or quads block []) (own_hash (get_or quads block []))
+      let one = zip_at quads hashes are block low in
+      same_quads (numbers_of (hashes_again k hashes block)) (repeated_all k some hashes) (of_block k some hashes block) k n
+      (λ h. block_has k some hashes block one.0 h ∙ ap (λ b. b && has (of_block k some hashes block) h) (sym (all_has k some hashes h)))
+      (get_or quads block []) (own_hash (get_or quads block []) (get_or hashes block []) one.1)
 
-  block_lines : (n block : ℕ) → block < length quads → flat_map lines (block_again k quads n block) ≡ map quad_line (of_all n (get_or quads block []))
-  block_lines n block low = by (length hashes == 0) refl
+  block_lines : (n block : ℕ) → block < length quads → flat_map lines (block_again k quads hashes n block) ≡ map quad_line (of_all n (get_or quads block []))
+  block_lines n block low = by (length again == 0) refl
     where
-      hashes : List ℕ
-      hashes = numbers_of (hashes_again k quads block)
+      again : List ℕ
+      again = numbers_of (hashes_again k hashes block)
 
       qs : List QuadParts
       qs = get_or quads block []
 
       found : List QuadParts
-      found = quads_in (hash_among hashes) k n qs
+      found = quads_in (hash_among again) k n qs
 
-      by : (b : Bool) → (length hashes == 0) ≡ b → flat_map lines (if b then [] else quad_document found ∷ []) ≡ map quad_line (of_all n qs)
-      by true e = ap (map quad_line) (sym (no_quads hashes k n (empty hashes e) qs) ∙ block_quads_again n block low)
+      by : (b : Bool) → (length again == 0) ≡ b → flat_map lines (if b then [] else quad_document found ∷ []) ≡ map quad_line (of_all n qs)
+      by true e = ap (map quad_line) (sym (no_quads again k n (empty again e) qs) ∙ block_quads_again n block low)
       by false e =
           append-nil (lines (quad_document found))
-          ∙ lines_of_quads found (Each-filter IsOfLine (λ q. has_key k n (hash_among hashes q)) qs (each_block quads good block))
+          ∙ lines_of_quads found (Each-filter IsOfLine (λ q. has_key k n (hash_among again q)) qs (each_block quads good block))
           ∙ ap (map quad_line) (block_quads_again n block low)
 
-  counted_again : (n : ℕ) → distinct_lines (partition_again k quads n) ≡ length (without_repeats same_parts (again (repeated_all k some quads) k quads n))
+  counted_again : (n : ℕ) → distinct_lines (partition_again k quads hashes n) ≡ length (without_repeats same_parts (again (repeated_all k some hashes) k quads n))
   counted_again n =
-      let found = again (repeated_all k some quads) k quads n in
+      let found = again (repeated_all k some hashes) k quads n in
       let all : Each IsOfLine found =
-      Each-flat_map (Each IsOfLine) IsOfLine (of_all n) (λ qs h. Each-filter IsOfLine (λ q. has_key k n (hash_among (repeated_all k some quads) q)) qs h) quads good in
+      Each-flat_map (Each IsOfLine) IsOfLine (of_all n) (λ qs h. Each-filter IsOfLine (λ q. has_key k n (hash_among (repeated_all k some hashes) q)) qs h) quads good in
       ap (λ l. length (without_repeats bytes_eq l))
-      (flat_below (block_again k quads n) (λ qs. map quad_line (of_all n qs)) quads (block_lines n) ∙ lines_of_all (of_all n) quads)
+      (flat_below (block_again k quads hashes n) (λ qs. map quad_line (of_all n qs)) quads (block_lines n) ∙ lines_of_all (of_all n) quads)
       ∙ ap length (without_repeats-map IsOfLine same_parts bytes_eq quad_line line_eq found all)
       ∙ length-map (without_repeats same_parts found) quad_line
+
+-- ---- the distinct quads of the blocks
+
+-- the distinct quads of each block, one block after the other
+abbrev once_each : List (List QuadParts) → List QuadParts
+once_each quads = flat_map (without_repeats same_parts) quads
+
+-- they are the quads of the document
+once_any : (q : QuadParts) (quads : List (List QuadParts)) → list_any (same_parts q) (once_each quads) ≡ list_any (same_parts q) (joined quads)
+once_any q [] = refl
+once_any q (qs ∷ quads) =
+    list_any-append (same_parts q) (without_repeats same_parts qs) (once_each quads)
+    ∙ (λ i. any-without_repeats_is same_parts parts_decides q qs i || once_any q quads i)
+    ∙ sym (list_any-append (same_parts q) qs (joined quads))
+
+-- the hashes of all blocks are theirs
+once_hashed : (quads : List (List QuadParts)) (hashes : List (List ℕ)) → AllZip AreHashesOf quads hashes → IsPermutation (map quad_hash (once_each quads)) (numbers_of hashes)
+once_hashed [] [] h = IsPermutation-refl []
+once_hashed [] (hs ∷ hashes) h = elim h [ ]
+once_hashed (qs ∷ quads) [] h = elim h [ ]
+once_hashed (qs ∷ quads) (hs ∷ hashes) h =
+    let one = map quad_hash (without_repeats same_parts qs) in
+    let rest = map quad_hash (once_each quads) in
+    subst (λ l. IsPermutation l (hs ++ numbers_of hashes)) (sym (map-append quad_hash (without_repeats same_parts qs) (once_each quads)))
+    (IsPermutation-append one hs rest (numbers_of hashes) h.0 (once_hashed quads hashes h.1))
+
+-- the distinct ones of the quads that pass a test
+once_passes : (p : QuadParts → Bool) (quads : List (List QuadParts))
+    → length (without_repeats same_parts (filter p (joined quads))) ≡ length (without_repeats same_parts (filter p (once_each quads)))
+once_passes p quads = same_length same_parts parts_decides (filter p (joined quads)) (filter p (once_each quads)) (λ q.
+    any-filter_is same_parts parts_decides p q (joined quads) ∙ ap (λ b. p q && b) (sym (once_any q quads))
+    ∙ sym (any-filter_is same_parts parts_decides p q (once_each quads)))
 
 -- ---- the law
 
 pub quads_add_up : QuadsAddUp
-quads_add_up k blocks quads some h =
+quads_add_up k blocks quads hashes some h are =
     let Q = joined quads in
-    let hs = map quad_hash Q in
-    let repeated = repeated_all k some quads in
+    let D = once_each quads in
+    let hs = numbers_of hashes in
+    let repeated = repeated_all k some hashes in
     let good = block_quads blocks quads h.statements in
-    sum_below-same (λ n. length (single (numbers_of (partition_hashes k quads n))) + distinct_lines (partition_again k quads n))
+    let moved = once_hashed quads hashes are in
+    sum_below-same (λ n. length (single (numbers_of (partition_hashes k hashes n))) + distinct_lines (partition_again k quads hashes n))
     (λ n. length (single (hashes_in k n hs)) + length (without_repeats same_parts (again repeated k quads n)))
-    (λ n i. length (single (gathered_hashes k n quads i)) + counted_again k some quads good n i) k
+    (λ n i. length (single (gathered_hashes k n hashes i)) + counted_again k some quads good hashes are n i) k
     ∙ sum_below-plus (λ n. length (single (hashes_in k n hs))) (λ n. length (without_repeats same_parts (again repeated k quads n))) k
     ∙ (λ i. singles_add_up k some hs i + again_adds_up repeated k some quads i)
-    ∙ ap (λ (p : QuadParts → Bool). length (single hs) + length (without_repeats same_parts (filter p Q))) (λ i q. all_has k some quads (quad_hash q) i)
-    ∙ both_kinds same_parts parts_decides quad_hash Q
+    ∙ (λ i. length_single (map quad_hash D) hs moved i + once_passes (λ q. has repeated (quad_hash q)) quads i)
+    ∙ ap (λ (p : QuadParts → Bool). length (single (map quad_hash D)) + length (without_repeats same_parts (filter p D)))
+    (λ i q. (all_has k some hashes (quad_hash q) ∙ repeated_moved (map quad_hash D) hs moved (quad_hash q)) i)
+    ∙ both_kinds same_parts parts_decides quad_hash D
+    ∙ same_length same_parts parts_decides D Q (λ q. once_any q quads)

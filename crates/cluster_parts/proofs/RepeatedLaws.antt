@@ -1,13 +1,20 @@
 -- Numbers that a list has at two places, and the elements that have them as hashes.
-use Rattle.std.proofs.Common.{◌≡◌, ℕ, ◌+◌, Bool, true, false, cond, nat_eq, not, ◌&&◌, ◌||◌, if◌then◌else◌, List, [], ◌∷◌, ◌++◌, length, map, filter, Decides, refl, sym, ap, ◌∙◌, ⊎_elim, arith, eq-eqb}
-use Rattle.std.proofs.lemmas.List.{length-map}
-use Rattle.std.specs.List.{list_any}
-use Rattle.std.proofs.lemmas.Bool.{cases_Bool, eqb-true, false≢true}
+use Rattle.std.proofs.Common.{◌≡◌, ℕ, ◌+◌, Bool, true, false, cond, nat_eq, not, ◌&&◌, ◌||◌, if◌then◌else◌, List, [], ◌∷◌, ◌++◌, length, map, filter, Decides, refl, sym, ap, ◌∙◌, ⊎_elim, arith, eq-eqb, ne_eqb, take, get_or, zero, suc, ◌<◌, ◌≤◌, IsPermutation, IsSorted, nat_lt, count_by}
+use Rattle.std.proofs.lemmas.List.{length-map, take_more}
+use Rattle.std.specs.List.{dedup, list_any}
+use Rattle.std.specs.List.Sorted.{IsNonDecreasing}
+use Rattle.std.specs.Ordering.{nat_cmp}
+use Rattle.std.proofs.lemmas.Bool.{cases_Bool, cases_eq, eqb-true, false≢true, le-ltb, lt-ltb}
 use Rattle.std.proofs.lemmas.Bool.Decides.{Decides-eqb}
 use Rattle.std.proofs.lemmas.List.Filters.{length-filter_both}
 use Rattle.std.proofs.lemmas.List.Folds.{list_any-append}
+use Rattle.std.proofs.lemmas.List.Sorted.{IsNonDecreasingBy-from_sort, length_permutation}
 use Rattle.algebra_model.specs.Bag.{IsWithoutRepeats, without_repeats}
+use Rattle.algebra_model.proofs.BagLaws.{IsPermutation-filter, count_by-IsPermutation, count_by-no, count_by-yes}
 use Rattle.algebra_model.proofs.RepeatLaws.{IsWithoutRepeats-filter, IsWithoutRepeats-without_repeats, any-without_repeats_is}
+use Rattle.std.proofs.lemmas.Cmp.{nat_cmp_total}
+use Rattle.quad_index.proofs.OnceLaws.{dedup_once}
+use Rattle.quad_index.proofs.SortOrderLaws.{nat_ties}
 use Rattle.cluster_parts.specs.Repeated.{has, is_repeated, single}
 use Rattle.cluster_parts.proofs.SetCounts.{any-filter_is, length_of_set, map-filter}
 
@@ -81,7 +88,7 @@ not_repeated xs x n new = by (is_repeated xs n) (nat_eq n x) refl ∙ sym (repea
 -- ---- elements whose hash occurs once
 
 module _ {X : Type 0} (same : X → X → Bool) (decides : (x y : X) → Decides (same x y) (x ≡ y)) (hash : X → ℕ) where
-  any_hash : (q : X) (qs : List X) → list_any (same q) qs ≡ true → has (map hash qs) (hash q) ≡ true
+  pub any_hash : (q : X) (qs : List X) → list_any (same q) qs ≡ true → has (map hash qs) (hash q) ≡ true
   any_hash q [] e = e
   any_hash q (r ∷ qs) e = by (same q r) refl e (any_hash q qs)
     where
@@ -162,3 +169,85 @@ singles_and_others xs all others once once' in_all in_others =
     let both : length (single xs) + length (without_repeats nat_eq (filter (is_repeated xs) xs)) ≡ length (without_repeats nat_eq xs) =
     ap (λ l. length (single l) + length (without_repeats nat_eq (filter (is_repeated l) xs))) (sym (as_they_are xs)) ∙ both_kinds nat_eq Decides-eqb (λ n. n) xs in
     omega (arith, whole, rest, both)
+
+-- ---- numbers in another order
+
+has_count : (xs : List ℕ) (n : ℕ) → has xs n ≡ nat_lt 0 (count_by (nat_eq n) xs)
+has_count [] n = refl
+has_count (m ∷ xs) n = by (nat_eq n m) refl (has_count xs n)
+  where
+    by : (b : Bool) → nat_eq n m ≡ b → has xs n ≡ nat_lt 0 (count_by (nat_eq n) xs) → (b || has xs n) ≡ nat_lt 0 (count_by (nat_eq n) (m ∷ xs))
+    by true e ih = sym (ap (nat_lt 0) (count_by-yes (nat_eq n) m xs e) ∙ lt-ltb 0 (1 + count_by (nat_eq n) xs) (omega arith))
+    by false e ih = ih ∙ sym (ap (nat_lt 0) (count_by-no (nat_eq n) m xs e))
+
+one_less : (c : ℕ) → nat_lt 1 (1 + c) ≡ nat_lt 0 c
+one_less zero = le-ltb 1 (1 + zero) (omega arith) ∙ sym (le-ltb 0 zero (omega arith))
+one_less (suc c) = lt-ltb 1 (1 + suc c) (omega arith) ∙ sym (lt-ltb 0 (suc c) (omega arith))
+
+-- a number is at two places if it is counted twice
+repeated_count : (xs : List ℕ) (n : ℕ) → is_repeated xs n ≡ nat_lt 1 (count_by (nat_eq n) xs)
+repeated_count [] n = refl
+repeated_count (m ∷ xs) n = by (nat_eq n m) refl (repeated_count xs n)
+  where
+    by : (b : Bool) → nat_eq n m ≡ b → is_repeated xs n ≡ nat_lt 1 (count_by (nat_eq n) xs)
+        → (if b then has xs n else is_repeated xs n) ≡ nat_lt 1 (count_by (nat_eq n) (m ∷ xs))
+    by true e ih = has_count xs n ∙ sym (ap (nat_lt 1) (count_by-yes (nat_eq n) m xs e) ∙ one_less (count_by (nat_eq n) xs))
+    by false e ih = ih ∙ sym (ap (nat_lt 1) (count_by-no (nat_eq n) m xs e))
+
+pub repeated_moved : (xs ys : List ℕ) → IsPermutation xs ys → (n : ℕ) → is_repeated ys n ≡ is_repeated xs n
+repeated_moved xs ys moved n =
+    repeated_count ys n ∙ ap (nat_lt 1) (count_by-IsPermutation (nat_eq n) xs ys moved) ∙ sym (repeated_count xs n)
+
+pub length_single : (xs ys : List ℕ) → IsPermutation xs ys → length (single ys) ≡ length (single xs)
+length_single xs ys moved =
+    (λ i. length (filter (λ n. not (repeated_moved xs ys moved n i)) ys))
+    ∙ length_permutation (single xs) (filter (λ n. not (is_repeated xs n)) ys) (IsPermutation-filter nat_eq Decides-eqb (λ n. not (is_repeated xs n)) xs ys moved)
+
+-- ---- ascending numbers
+
+-- no number of the front is this one, if each is below
+none_equal : (xs : List ℕ) (m x : ℕ) → m ≤ length xs → ((j : ℕ) → j < m → get_or xs j 0 < x) → has (take m xs) x ≡ false
+none_equal xs zero x low below = refl
+none_equal xs (suc m) x low below =
+    let next : suc m ≡ m + 1 = omega arith in
+    let last = below m (omega arith) in
+    let apart : nat_eq x (get_or xs m 0) ≡ false = ne_eqb x (get_or xs m 0) (λ e. absurd (omega (arith, e, last))) in
+    ap (λ l. has l x) (ap (λ k. take k xs) next ∙ take_more xs m 0 (omega arith)) ∙ sym (pushed_has (take m xs) (get_or xs m 0) x)
+    ∙ (λ i. none_equal xs m x (omega arith) (λ j less. below j (omega arith)) i || apart i)
+
+less_than : (a b c : ℕ) → a ≤ b → b ≤ c → (c ≡ b → ⊥) → a < c
+less_than a b c h k other = ⊎_elim
+    (λ (same : c ≡ b). absurd (other same))
+    (λ (apart : c ≡ b → ⊥). omega (arith, apart))
+    (cases_eq c b)
+
+-- a number is among those before it if it is the last one of them
+pub seen_before : (xs : List ℕ) (i j : ℕ) → IsSorted nat_cmp xs → i ≡ j + 1 → i < length xs → has (take i xs) (get_or xs i 0) ≡ nat_eq (get_or xs i 0) (get_or xs j 0)
+seen_before xs i j sorted after low =
+    ap (λ l. has l x) (ap (λ k. take k xs) after ∙ take_more xs j 0 (omega arith)) ∙ sym (pushed_has (take j xs) y x) ∙ by (nat_eq x y) refl
+  where
+    x : ℕ
+    x = get_or xs i 0
+
+    y : ℕ
+    y = get_or xs j 0
+
+    up : IsNonDecreasing xs
+    up = IsNonDecreasingBy-from_sort (λ n. n) xs sorted
+
+    last : (b : Bool) → (b || true) ≡ true
+    last true = refl
+    last false = refl
+
+    by : (b : Bool) → nat_eq x y ≡ b → (has (take j xs) x || b) ≡ b
+    by true e = last (has (take j xs) x)
+    by false e =
+        let most : y ≤ x = up j i 0 (omega arith) low in
+        let other : x ≡ y → ⊥ = λ same. false≢true (sym e ∙ eq-eqb x y same) in
+        ap (λ b. b || false) (none_equal xs j x (omega arith) (λ m less.
+        let below : get_or xs m 0 ≤ y = up m j 0 (omega arith) (omega arith) in
+        less_than (get_or xs m 0) y x below most other))
+
+-- without its repeats an ascending list is the list of its different numbers
+pub sorted_once : (xs : List ℕ) → IsSorted nat_cmp xs → IsPermutation (without_repeats nat_eq xs) (dedup nat_eq xs)
+sorted_once xs sorted = dedup_once nat_eq Decides-eqb nat_cmp nat_cmp_total (λ x y. sym (nat_ties x y)) xs sorted

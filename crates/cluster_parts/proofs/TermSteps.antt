@@ -21,7 +21,7 @@ use Rattle.dict_core.specs.declared.num_quad.NumQuad.{NumQuad}
 use Rattle.algebra_model.specs.Bag.{IsWithoutRepeats, without_repeats}
 use Rattle.algebra_model.specs.Dataset.{names}
 use Rattle.text_pieces.specs.Forms.{AreFormsOf, AreNumberedBy}
-use Rattle.cluster_parts.specs.Hash.{hash, number_bytes, quad_hash, term_hash}
+use Rattle.cluster_parts.specs.Hash.{hash, number_bytes, term_hash}
 use Rattle.cluster_parts.specs.Seal.{all_sealed, sealed}
 use Rattle.cluster_parts.specs.Parts.{hashes_in, is_in, number_list, terms_in, texts_below}
 use Rattle.cluster_parts.specs.Terms.{has_line, is_marked, line_list, lines_in, mark, marked_lines, marks, marks_in_turn, term_lines, term_line}
@@ -72,13 +72,13 @@ counted_below k ts names texts named hashes (suc n) is are = λ i. counted_below
 
 -- the number of lines, and the parts of a block
 pub check_parts_are : (k count : ℕ) (quads : List QuadParts) (texts : List (List ℕ)) (numbered : List NumQuad) (named : List (List ℕ)) (hashes out0 out1 out2 : List ℕ) → AreNumberedBy quads texts numbered
-    → AreFormsOf (names quads) named → hashes ≡ map quad_hash quads → out0 ≡ [] → out1 ≡ out0 ++ sealed (number_bytes count) → out2 ≡ out1 ++ texts_below (counted_part k texts named hashes) k
-    → out2 ≡ check_parts k count quads
-check_parts_are k count quads texts numbered named hashes out0 out1 out2 h are hashed none first second =
+    → AreFormsOf (names quads) named → out0 ≡ [] → out1 ≡ out0 ++ sealed (number_bytes count) → out2 ≡ out1 ++ texts_below (counted_part k texts named hashes) k
+    → out2 ≡ check_parts k count quads hashes
+check_parts_are k count quads texts numbered named hashes out0 out1 out2 h are none first second =
     second ∙ ap (λ l. l ++ texts_below (counted_part k texts named hashes) k) (first ∙ ap (λ l. l ++ sealed (number_bytes count)) none)
     ∙ ap (λ l. sealed (number_bytes count) ++ l)
     (counted_below k h.terms (names quads) texts named hashes k h.forms.forms are.forms
-    ∙ (λ i. texts_below (counting_part k (h.numbered.0 i) (names quads) (hashed i)) k))
+    ∙ (λ i. texts_below (counting_part k (h.numbered.0 i) (names quads) hashes) k))
 
 parts_below : (k : ℕ) (ts : List Term) (n : ℕ) → texts_below (lines_part k (map serialization ts)) n ≡ texts_below (terms_part k ts) n
 parts_below k ts zero = refl

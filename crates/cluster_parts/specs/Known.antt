@@ -1,12 +1,11 @@
 -- What the loops over lines know. Only private clauses use these definitions.
-use Rattle.std.specs.Prelude.{◌≡◌, ℕ, ◌<◌, List, ◌++◌, length, get_or, map, nat_eq, Vec}
+use Rattle.std.specs.Prelude.{◌≡◌, ℕ, ◌<◌, List, ◌++◌, length, get_or, map, Vec}
 use Rattle.std.specs.Borrow.{Bor}
 use Rattle.std.specs.declared.alloc.Global.{Global}
-use Rattle.indexmap.specs.IndexSet.{IndexSet, contains}
+use Rattle.indexmap.specs.IndexSet.{IndexSet}
 use Rattle.cluster_parts.specs.Hash.{number_bytes}
 use Rattle.cluster_parts.specs.Seal.{sealed}
 use Rattle.cluster_parts.specs.Parts.{hashes_in, number_list, texts_below}
-use Rattle.cluster_parts.specs.Repeated.{has, is_repeated}
 use Rattle.cluster_parts.specs.Terms.{has_line, line_list, lines_in}
 
 -- borrowed texts
@@ -43,8 +42,3 @@ counted_part partitions texts names hashes number =
 -- lists of the code
 abbrev pub items_of : List (Vec ℕ Global) → List (List ℕ)
 items_of lists = map (λ list. list.items) lists
-
--- the one set has these numbers, and the other one those of them that are at two places or more
-pub record AreFound {S : Type 0} (numbers : List ℕ) (seen again : IndexSet ℕ S) : Type 0 where
-  pub all : (n : ℕ) → contains nat_eq seen n ≡ has numbers n
-  pub repeated : (n : ℕ) → contains nat_eq again n ≡ is_repeated numbers n

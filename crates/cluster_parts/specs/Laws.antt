@@ -9,12 +9,11 @@ use Rattle.dict_core.specs.Numbered.{joined}
 use Rattle.algebra_model.specs.Bag.{without_repeats}
 use Rattle.algebra_model.specs.Dataset.{names}
 use Rattle.quad_index.specs.Laws.{same_parts}
-use Rattle.cluster_parts.specs.Hash.{quad_hash}
 use Rattle.cluster_parts.specs.Seal.{all_sealed, joined_texts}
 use Rattle.cluster_parts.specs.Parts.{hashes_in, quad_document, quads_in, terms_in, texts_below}
 use Rattle.cluster_parts.specs.Repeated.{numbers_of, repeated_in, single}
 use Rattle.cluster_parts.specs.Terms.{term_lines}
-use Rattle.cluster_parts.specs.Output.{AreFirst, IsKept, distinct_lines, hash_among}
+use Rattle.cluster_parts.specs.Output.{AreFirst, AreHashesOf, IsKept, distinct_lines, hash_among}
 use Rattle.quad_index.specs.Parts.{sum_below}
 
 -- each text but the last ends a line
@@ -41,9 +40,9 @@ partition_terms partitions quads n = map (λ qs. term_lines (terms_in partitions
 abbrev pub partition_names : ℕ → List (List QuadParts) → ℕ → List (List ℕ)
 partition_names partitions quads n = map (λ qs. term_lines (terms_in partitions n (names qs))) quads
 
--- the lists of the hashes of quads
-abbrev pub partition_hashes : ℕ → List (List QuadParts) → ℕ → List (List ℕ)
-partition_hashes partitions quads n = map (λ qs. hashes_in partitions n (map quad_hash qs)) quads
+-- the lists of hashes that the blocks have for a partition
+abbrev pub partition_hashes : ℕ → List (List ℕ) → ℕ → List (List ℕ)
+partition_hashes partitions hashes n = map (hashes_in partitions n) hashes
 
 -- f at 0, 1, .. up to n - 1
 abbrev pub each_below : (ℕ → List ℕ) → ℕ → List (List ℕ)
@@ -51,18 +50,18 @@ each_below f zero = []
 each_below f (suc n) = each_below f n ++ f n ∷ []
 
 -- the hashes of a block that occur again: what `repeated` writes for the block in each partition
-abbrev pub hashes_again : ℕ → List (List QuadParts) → ℕ → List (List ℕ)
-hashes_again partitions quads block = each_below (λ n. get_or (repeated_in (partition_hashes partitions quads n)) block []) partitions
+abbrev pub hashes_again : ℕ → List (List ℕ) → ℕ → List (List ℕ)
+hashes_again partitions hashes block = each_below (λ n. get_or (repeated_in (partition_hashes partitions hashes n)) block []) partitions
 
 -- What `again` writes for a block in a partition. It does not run over a block without hashes that occur again.
-abbrev pub block_again : ℕ → List (List QuadParts) → ℕ → ℕ → List (List ℕ)
-block_again partitions quads n block =
-    let hashes = numbers_of (hashes_again partitions quads block) in
-    if length hashes == 0 then [] else quad_document (quads_in (hash_among hashes) partitions n (get_or quads block [])) ∷ []
+abbrev pub block_again : ℕ → List (List QuadParts) → List (List ℕ) → ℕ → ℕ → List (List ℕ)
+block_again partitions quads hashes n block =
+    let again = numbers_of (hashes_again partitions hashes block) in
+    if length again == 0 then [] else quad_document (quads_in (hash_among again) partitions n (get_or quads block [])) ∷ []
 
 -- what `again` writes for the blocks in a partition
-abbrev pub partition_again : ℕ → List (List QuadParts) → ℕ → List (List ℕ)
-partition_again partitions quads n = texts_below (block_again partitions quads n) (length quads)
+abbrev pub partition_again : ℕ → List (List QuadParts) → List (List ℕ) → ℕ → List (List ℕ)
+partition_again partitions quads hashes n = texts_below (block_again partitions quads hashes n) (length quads)
 
 -- the numbers of terms of the partitions add up to that of the document
 abbrev pub TermsAddUp : Type 0
@@ -76,13 +75,15 @@ NamesAddUp =
     (partitions : ℕ) (blocks : List (List ℕ)) (quads : List (List QuadParts)) → 0 < partitions → AreBlocks blocks quads
     → sum_below (λ n. distinct_lines (partition_names partitions quads n)) partitions ≡ length (names (joined quads))
 
--- The distinct quads of the document are the hashes that occur once, and the quads that have one of the other hashes,
--- counted by partition. So the count is exact, also if different quads have the same hash.
+-- Let the blocks have the hashes of their distinct quads, in any order. The distinct quads of the document are the hashes
+-- that occur once, and the quads that have one of the other hashes, counted by partition. So the count is exact, also if
+-- different quads have the same hash.
 abbrev pub QuadsAddUp : Type 0
 QuadsAddUp =
-    (partitions : ℕ) (blocks : List (List ℕ)) (quads : List (List QuadParts)) → 0 < partitions → AreBlocks blocks quads
+    (partitions : ℕ) (blocks : List (List ℕ)) (quads : List (List QuadParts)) (hashes : List (List ℕ))
+    → 0 < partitions → AreBlocks blocks quads → AllZip AreHashesOf quads hashes
     → sum_below
-    (λ n. length (single (numbers_of (partition_hashes partitions quads n))) + distinct_lines (partition_again partitions quads n))
+    (λ n. length (single (numbers_of (partition_hashes partitions hashes n))) + distinct_lines (partition_again partitions quads hashes n))
     partitions
     ≡ length (without_repeats same_parts (joined quads))
 

@@ -1,5 +1,5 @@
 -- What the commands write (choices of this project).
-use Rattle.std.specs.Prelude.{◌≡◌, ℕ, ◌<◌, List, [], ◌++◌, Option, Some, None, is_none, map, filter, get_or, length, if◌then◌else◌}
+use Rattle.std.specs.Prelude.{◌≡◌, ℕ, ◌<◌, List, [], ◌++◌, Option, Some, None, is_none, map, filter, get_or, length, if◌then◌else◌, IsPermutation}
 use Rattle.std.specs.List.{flat_map}
 use Rattle.std.specs.Str.{bytes_eq}
 use Rattle.rdf_core.specs.declared.term.Term.{Term}
@@ -8,6 +8,7 @@ use Rattle.nquads_core.specs.Lines.{lines}
 use Rattle.dict_core.specs.Appearances.{terms_of, first_appearances}
 use Rattle.algebra_model.specs.Bag.{without_repeats}
 use Rattle.algebra_model.specs.Dataset.{names}
+use Rattle.quad_index.specs.Laws.{same_parts}
 use Rattle.cluster_parts.specs.Hash.{number_bytes, quad_hash}
 use Rattle.cluster_parts.specs.Seal.{sealed}
 use Rattle.cluster_parts.specs.Parts.{terms_in, hashes_in, number_list, quad_document, quads_in, texts_below}
@@ -21,12 +22,16 @@ counting_part partitions terms names hashes number =
     ++ (sealed (term_lines (terms_in partitions number names))
     ++ sealed (number_list (hashes_in partitions number hashes)))
 
--- `split check`: the number of lines, and for each partition its distinct terms, its distinct graph names, and the hashes
--- of its quads, with repeats
-abbrev pub check_parts : ℕ → ℕ → List QuadParts → List ℕ
-check_parts partitions count quads =
+-- the hashes of the distinct quads, in some order
+abbrev pub AreHashesOf : List QuadParts → List ℕ → Type 0
+AreHashesOf quads hashes = IsPermutation (map quad_hash (without_repeats same_parts quads)) hashes
+
+-- `split check`: the number of lines, and for each partition the distinct terms, the distinct graph names, and those of
+-- these hashes that it has
+abbrev pub check_parts : ℕ → ℕ → List QuadParts → List ℕ → List ℕ
+check_parts partitions count quads hashes =
     sealed (number_bytes count)
-    ++ texts_below (counting_part partitions (first_appearances (terms_of quads)) (names quads) (map quad_hash quads)) partitions
+    ++ texts_below (counting_part partitions (first_appearances (terms_of quads)) (names quads) hashes) partitions
 
 -- the hash of a quad, if it is one of these hashes
 abbrev pub hash_among : List ℕ → QuadParts → Option ℕ

@@ -1,7 +1,7 @@
 //! Parts of a document that is read block by block on several machines, and how they are counted.
 //!
 //! A block is a run of whole lines of a document. [`split_for_check`] reads one block. It spreads the terms, the
-//! graph names and the hashes of the quads over partitions. Equal terms, and equal quads, are in the same partition.
+//! graph names and the hashes of the distinct quads over partitions. Equal terms, and equal quads, are in the same partition.
 //! So what is counted in one partition needs nothing from another: [`count_lines`] counts terms and names, and
 //! [`repeated_hashes`] finds the hashes of each block that occur again. [`split_again`] reads the quads that have these
 //! from the blocks again, and [`count_lines`] counts them.

@@ -1,11 +1,12 @@
 //! The hashes of a partition that occur again.
-ghost use Rattle.std.specs.Prelude.{◌≡◌, ◌∷◌, ◌++◌, [], List, ℕ, filter, length, map, nat_eq, not, IfOk, OnOk};
+ghost use Rattle.std.specs.Prelude.{◌≡◌, ◌∷◌, ◌++◌, [], List, ℕ, filter, length, map, nat_eq, not, IfOk, OnOk, IsPermutation, IsSorted};
+ghost use Rattle.std.specs.Ordering.{nat_cmp};
 ghost use Rattle.indexmap.specs.IndexSet.{contains, insert_key};
 ghost use Rattle.cluster_parts.specs.Hash.{number_bytes};
 ghost use Rattle.cluster_parts.specs.Seal.{all_sealed, sealed};
 ghost use Rattle.cluster_parts.specs.Parts.{number_list};
 ghost use Rattle.cluster_parts.specs.Repeated.{has, is_repeated, numbers_of, repeated_in, single};
-ghost use Rattle.cluster_parts.specs.Known.{AreFound, items_of};
+ghost use Rattle.cluster_parts.specs.Known.{items_of};
 
 use crate::sealing::{
     SealFault, first_sealed, numbers_of, push_number, push_sealed, push_sealed_number,
@@ -41,29 +42,54 @@ pub(crate) fn set_of(
     Ok(set)
 }
 
-/// Adds numbers to those that were seen. Those that were seen before are added to `again`, too.
-fn add_numbers(
-    seen: &mut IndexSet<u64, HashState>,
-    again: &mut IndexSet<u64, HashState>,
-    numbers: &[u64],
-) -> Result<(), AllocError>
-    ensures found { OnOk result ((earlier : List ℕ) → AreFound earlier seen.old again.old
-        → AreFound (earlier ++ numbers.now) seen.new again.new) }
+/// Returns the numbers of some lists, one list after the other.
+fn joined(alloc: Global, lists: &[Vec<u64>]) -> Result<Vec<u64>, AllocError>
+    ensures numbers { IfOk result (λ numbers. numbers.items ≡ numbers_of (items_of lists.now)) }
 {
-    for number in numbers {
-        if !add_number(seen, *number)? {
-            add_number(again, *number)?;
-        }
+    let mut numbers = Vec::new(alloc);
+    for list in lists {
+        numbers.extend_from_slice(list.as_slice())?;
     }
-    Ok(())
+    Ok(numbers)
 }
 
-/// Returns how many of the numbers that were seen were not seen again.
-fn count_single(seen: &IndexSet<u64, HashState>, again: &IndexSet<u64, HashState>) -> u64
-    requires found { (numbers : List ℕ) × AreFound numbers seen.now again.now }
-    ensures count { (numbers : List ℕ) → AreFound numbers seen.now again.now → result ≡ length (single numbers) }
+/// Returns the numbers of some lists in ascending order.
+fn sorted_numbers(alloc: Global, lists: &[Vec<u64>]) -> Result<Vec<u64>, AllocError>
+    ensures sorted { IfOk result (λ numbers. IsSorted nat_cmp numbers.items) }
+    ensures same { IfOk result (λ numbers. IsPermutation (numbers_of (items_of lists.now)) numbers.items) }
 {
-    (seen.len() - again.len()) as u64
+    let mut numbers = joined(alloc, lists)?;
+    numbers.sort_unstable();
+    Ok(numbers)
+}
+
+/// Returns the set of the numbers that an ascending list has at two places or more: they are equal to the number before.
+fn again_of(
+    alloc: Global,
+    state: RandomState,
+    numbers: &[u64],
+) -> Result<IndexSet<u64, HashState>, AllocError>
+    requires sorted { IsSorted nat_cmp numbers.now }
+    ensures again { IfOk result (λ again. (n : ℕ) → contains nat_eq again n ≡ is_repeated numbers.now n) }
+{
+    let mut again = IndexSet::with_hasher(alloc, HashState::new(state));
+    for i in 1..numbers.len() {
+        if numbers[i] == numbers[i - 1] {
+            add_number(&mut again, numbers[i])?;
+        }
+    }
+    Ok(again)
+}
+
+/// Returns how many numbers an ascending list has once. `again` are the others.
+fn count_single(numbers: Vec<u64>, again: &IndexSet<u64, HashState>) -> u64
+    requires sorted { IsSorted nat_cmp numbers.items }
+    requires again { (n : ℕ) → contains nat_eq again.now n ≡ is_repeated numbers.items n }
+    ensures count { result ≡ length (single numbers.items) }
+{
+    let mut numbers = numbers;
+    numbers.dedup();
+    (numbers.len() - again.len()) as u64
 }
 
 /// Finds the numbers that the lists together have at two places or more. Returns how many the lists have once, and the others.
@@ -75,13 +101,9 @@ fn repeated_of(
     ensures single { IfOk result (λ r. r.0 ≡ length (single (numbers_of (items_of lists.now)))) }
     ensures again { IfOk result (λ r. (n : ℕ) → contains nat_eq r.1 n ≡ is_repeated (numbers_of (items_of lists.now)) n) }
 {
-    let state = HashState::new(state);
-    let mut seen = IndexSet::with_hasher(alloc, state);
-    let mut again = IndexSet::with_hasher(alloc, state);
-    for list in lists {
-        add_numbers(&mut seen, &mut again, list.as_slice())?;
-    }
-    Ok((count_single(&seen, &again), again))
+    let numbers = sorted_numbers(alloc, lists)?;
+    let again = again_of(alloc, state, numbers.as_slice())?;
+    Ok((count_single(numbers, &again), again))
 }
 
 /// Appends a list.

@@ -6,18 +6,18 @@ ghost use Rattle.nquads_core.specs.Pieces.{HaveStatements, IsFirstMalformed};
 ghost use Rattle.nquads_core.specs.declared.fault.PieceFault.TheVariants.{BadLine};
 ghost use Rattle.algebra_model.specs.Dataset.{names};
 ghost use Rattle.text_pieces.specs.Forms.{AreFormsOf};
-ghost use Rattle.cluster_parts.specs.Hash.{hash, number_bytes, quad_hash};
+ghost use Rattle.cluster_parts.specs.Hash.{hash, number_bytes};
 ghost use Rattle.cluster_parts.specs.Keys.{remainders};
 ghost use Rattle.cluster_parts.specs.Parts.{hashes_in, is_in, number_list, texts_below};
 ghost use Rattle.cluster_parts.specs.Known.{counted_part};
 ghost use Rattle.cluster_parts.specs.Numbered.{AreQuadsOf};
-ghost use Rattle.cluster_parts.specs.Output.{check_parts};
+ghost use Rattle.cluster_parts.specs.Output.{AreHashesOf, check_parts};
 
 use crate::graph_names::names_of;
 use crate::hashing::text_hashes;
 use crate::numbering::{NumberedLines, number_lines};
 use crate::partitions::{is_in, remainders};
-use crate::quad_hashes::quad_hashes_of;
+use crate::quad_hashes::distinct_hashes_of;
 use crate::sealing::{push_number, push_sealed, push_sealed_number};
 use crate::term_lists::push_lines_part;
 use nquads_core::PieceFault;
@@ -64,7 +64,7 @@ fn hashes_part(
     Ok(text)
 }
 
-/// The graph names of a block, the hashes of its quads, and the numbers of the partitions of its terms, names and quads.
+/// The graph names of a block, the hashes of its distinct quads, and the numbers of the partitions of its terms, names and quads.
 #[derive(Drop)]
 struct Counting {
     names: TextDict,
@@ -118,12 +118,12 @@ fn counting_of(
     ensures quad_parts { IfOk result (λ counting. counting.quad_parts.items ≡ remainders partitions counting.quad_hashes.items) }
     ensures all { IfOk result (λ counting. length counting.quad_parts.items ≡ length counting.quad_hashes.items) }
     ensures quads { IfOk result (λ counting. (quads : List QuadParts) → AreQuadsOf quads block.now
-        → counting.quad_hashes.items ≡ map quad_hash quads) }
+        → AreHashesOf quads counting.quad_hashes.items) }
 {
     let names = names_of(alloc, state, block)?;
     let term_hashes = text_hashes(alloc, &block.texts)?;
     let name_hashes = text_hashes(alloc, &names)?;
-    let quad_hashes = quad_hashes_of(alloc, term_hashes.as_slice(), block)?;
+    let quad_hashes = distinct_hashes_of(alloc, term_hashes.as_slice(), block)?;
     let term_parts = remainders(alloc, term_hashes.as_slice(), partitions)?;
     let name_parts = remainders(alloc, name_hashes.as_slice(), partitions)?;
     let quad_parts = remainders(alloc, quad_hashes.as_slice(), partitions)?;
@@ -168,7 +168,7 @@ fn parts_of(
     requires read { (quads : List QuadParts) × AreQuadsOf quads block.now }
     requires some { 0 < partitions }
     ensures parts { IfOk result (λ out. (quads : List QuadParts) → AreQuadsOf quads block.now
-        → out.items ≡ check_parts partitions block.now.lines quads) }
+        → (hashes : List ℕ) × AreHashesOf quads hashes × (out.items ≡ check_parts partitions block.now.lines quads hashes)) }
 {
     let counting = counting_of(alloc, state, block, partitions)?;
     let mut out = Vec::new(alloc);
@@ -180,7 +180,7 @@ fn parts_of(
 /// Reads a block of whole lines, and splits what `check` counts of it by partition (`check_parts`).
 ///
 /// The first sealed text is the number of lines, as eight bytes. Then come three sealed texts for each partition: its
-/// distinct terms and its distinct graph names, each on a line of its own, and the hashes of its quads.
+/// distinct terms and its distinct graph names, each on a line of its own, and the hashes of its distinct quads.
 ///
 /// # Requires
 /// There is at least one partition.
@@ -195,8 +195,8 @@ pub fn split_for_check(
     partitions: u64,
 ) -> Result<Vec<u8>, PieceFault>
     requires some { 0 < partitions }
-    ensures parts { IfOk result (λ out. (quads : List QuadParts) × HaveStatements (lines block.now) quads
-        × (out.items ≡ check_parts partitions (length (lines block.now)) quads)) }
+    ensures parts { IfOk result (λ out. (quads : List QuadParts) × (hashes : List ℕ) × HaveStatements (lines block.now) quads
+        × AreHashesOf quads hashes × (out.items ≡ check_parts partitions (length (lines block.now)) quads hashes)) }
     ensures bad_line { IfErr result
         (λ fault. (k : ℕ) → fault ≡ BadLine k → IsFirstMalformed (lines block.now) k) }
 {

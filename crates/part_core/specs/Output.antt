@@ -8,7 +8,7 @@ use Rattle.cluster_parts.specs.Seal.{all_sealed, joined_texts, sealed}
 use Rattle.cluster_parts.specs.Parts.{number_list}
 use Rattle.cluster_parts.specs.Repeated.{numbers_of, repeated_in, single}
 use Rattle.dict_core.specs.Appearances.{terms_of, first_appearances}
-use Rattle.cluster_parts.specs.Output.{AreFirst, IsKept, again_parts, check_parts, distinct_lines, keyed_parts, terms_parts}
+use Rattle.cluster_parts.specs.Output.{AreFirst, AreHashesOf, IsKept, again_parts, check_parts, distinct_lines, keyed_parts, terms_parts}
 use Rattle.cluster_parts.specs.Keys.{key_of}
 use Rattle.cluster_parts.specs.declared.key_splits.QuadKey.{QuadKey}
 use Rattle.query_split.specs.declared.split.Split.{Split}
@@ -21,8 +21,10 @@ use Rattle.part_core.specs.declared.command.Command.TheVariants.{SplitCheck, Cou
 -- `split check`: the parts of a block
 pub record IsSplit (partitions : ℕ) (input output : List ℕ) : Type 0 where
   pub quads : List QuadParts
+  pub hashes : List ℕ
   pub statements : HaveStatements (lines input) quads
-  pub parts : output ≡ check_parts partitions (length (lines input)) quads
+  pub hashed : AreHashesOf quads hashes
+  pub parts : output ≡ check_parts partitions (length (lines input)) quads hashes
 
 -- `count`: the number of distinct lines of sealed texts, as a line
 pub record IsCounted (input output : List ℕ) : Type 0 where

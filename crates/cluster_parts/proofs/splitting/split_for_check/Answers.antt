@@ -5,4 +5,5 @@ use Rattle.cluster_parts.proofs.splitting.split_for_check.Goals as goal
 pub returns-in-Ok-clause-parts : goal.returns-in-Ok-clause-parts
 returns-in-Ok-clause-parts c =
     let read = c.in_ok-numbered.ensures.quads in
-    (read.0, read.1, c.in-Ok.ensures.parts read.0 read.2 ∙ ap (λ n. check_parts c.args.partitions n read.0) c.in_ok-numbered.ensures.count)
+    let made = c.in-Ok.ensures.parts read.0 read.2 in
+    (read.0, made.0, read.1, made.1, made.2 ∙ ap (λ n. check_parts c.args.partitions n read.0 made.0) c.in_ok-numbered.ensures.count)
