@@ -450,16 +450,6 @@ sealed_first bytes first second third text after len checksum a b c d is_len is_
     b ∙ (λ i. number_bytes (is_len i) ++ inner i) ∙ sym (append_assoc (number_bytes (length text)) (number_bytes (hash text) ++ text) after) in
     a ∙ ap (λ l. seal_head ++ l) outer ∙ sym (append_assoc seal_head (number_bytes (length text) ++ (number_bytes (hash text) ++ text)) after)
 
--- ---- negations
-
-pub not_false : (a : Bool) → not a ≡ false → a ≡ true
-not_false true e = refl
-not_false false e = sym e
-
-pub not_true : (a : Bool) → not a ≡ true → a ≡ false
-not_true true e = sym e
-not_true false e = refl
-
 -- ---- three texts, one after the other
 
 pub three_texts : (out0 out1 out2 out3 a b c : List ℕ) → out0 ≡ [] → out1 ≡ out0 ++ a → out2 ≡ out1 ++ b → out3 ≡ out2 ++ c → out3 ≡ a ++ (b ++ c)

@@ -2,10 +2,13 @@
 use Rattle.std.proofs.Common.{◌≡◌, ℕ, ◌+◌, ◌<◌, ◌≤◌, ◌^◌, List, [], ◌∷◌, ◌++◌, length, get_or, drop, refl, sym, ap, ◌∙◌, arith, append_assoc, length-append}
 use Rattle.std.specs.Int.{from_le_bytes, w64}
 use Rattle.std.proofs.lemmas.List.{append_cancel_left}
+use Rattle.std.proofs.lemmas.List.Elements.{All-cons, All-head, All-nil, All-tail}
 use Rattle.std.proofs.lemmas.Nat.{from_le_bytes-to_le_bytes_8}
 use Rattle.cluster_parts.specs.Hash.{hash, number_bytes}
+use Rattle.cluster_parts.specs.Parts.{FitInEightBytes, number_list}
+use Rattle.cluster_parts.specs.Repeated.{numbers_of}
 use Rattle.cluster_parts.specs.Seal.{all_sealed, seal_head, sealed}
-use Rattle.cluster_parts.specs.Laws.{FrontsAreUnique, SealsAreUnique}
+use Rattle.cluster_parts.specs.Laws.{FrontsAreUnique, ListsAreUnique, SealsAreUnique}
 
 -- ---- lists that begin with the same number of elements
 
@@ -75,3 +78,32 @@ fronts_are_unique (t ∷ ts) (o ∷ os) rest rest' same low e =
     let h = first_same t o (all_sealed ts ++ rest) (all_sealed os ++ rest') low' (sym a ∙ e ∙ b) in
     let others = fronts_are_unique ts os rest rest' (omega (arith, same)) (omega (arith, low', long t (all_sealed ts ++ rest))) h.1 in
     ((λ i. h.0 i ∷ others.0 i), others.1)
+
+-- ---- lists of numbers
+
+numbers_same : (xs ys : List ℕ) → FitInEightBytes xs → FitInEightBytes ys → number_list xs ≡ number_list ys → xs ≡ ys
+numbers_same [] [] fit fit' e = refl
+numbers_same [] (y ∷ ys) fit fit' e = absurd (omega (arith, ap length e, length-append (number_bytes y) (number_list ys), number_long y))
+numbers_same (x ∷ xs) [] fit fit' e = absurd (omega (arith, ap length e, length-append (number_bytes x) (number_list xs), number_long x))
+numbers_same (x ∷ xs) (y ∷ ys) fit fit' e =
+    let h = split_same (number_bytes x) (number_bytes y) (number_list xs) (number_list ys) (number_long x ∙ sym (number_long y)) e in
+    let first = number_same x y (All-head (λ n. n < 2 ^ 64) x xs fit) (All-head (λ n. n < 2 ^ 64) y ys fit') h.0 in
+    let others = numbers_same xs ys (All-tail (λ n. n < 2 ^ 64) x xs fit) (All-tail (λ n. n < 2 ^ 64) y ys fit') h.1 in
+    (λ i. first i ∷ others i)
+
+front_fits : (xs ys : List ℕ) → FitInEightBytes (xs ++ ys) → FitInEightBytes xs × FitInEightBytes ys
+front_fits [] ys fit = (All-nil (λ n. n < 2 ^ 64), fit)
+front_fits (x ∷ xs) ys fit =
+    let rest = front_fits xs ys (All-tail (λ n. n < 2 ^ 64) x (xs ++ ys) fit) in
+    (All-cons (λ n. n < 2 ^ 64) x xs (All-head (λ n. n < 2 ^ 64) x (xs ++ ys) fit) rest.0, rest.1)
+
+pub lists_are_unique : ListsAreUnique
+lists_are_unique [] [] fit fit' e = refl
+lists_are_unique [] (o ∷ os) fit fit' e = absurd (omega (arith, ap length e))
+lists_are_unique (l ∷ ls) [] fit fit' e = absurd (omega (arith, ap length e))
+lists_are_unique (l ∷ ls) (o ∷ os) fit fit' e =
+    let one = front_fits l (numbers_of ls) fit in
+    let other = front_fits o (numbers_of os) fit' in
+    let first = numbers_same l o one.0 other.0 (ap (λ texts. get_or texts 0 []) e) in
+    let others = lists_are_unique ls os one.1 other.1 (ap (λ texts. drop 1 texts) e) in
+    (λ i. first i ∷ others i)

@@ -10,7 +10,7 @@ use Rattle.algebra_model.specs.Bag.{without_repeats}
 use Rattle.algebra_model.specs.Dataset.{names}
 use Rattle.quad_index.specs.Laws.{same_parts}
 use Rattle.cluster_parts.specs.Seal.{all_sealed, joined_texts}
-use Rattle.cluster_parts.specs.Parts.{hashes_in, quad_document, quads_in, terms_in, texts_below}
+use Rattle.cluster_parts.specs.Parts.{FitInEightBytes, hashes_in, number_list, quad_document, quads_in, terms_in, texts_below}
 use Rattle.cluster_parts.specs.Repeated.{numbers_of, repeated_in, single}
 use Rattle.cluster_parts.specs.Terms.{term_lines}
 use Rattle.cluster_parts.specs.Output.{AreFirst, AreHashesOf, IsKept, distinct_lines, hash_among}
@@ -114,3 +114,8 @@ abbrev pub FrontsAreUnique : Type 0
 FrontsAreUnique = (texts others : List (List ℕ)) (rest rest' : List ℕ) → length texts ≡ length others
     → length (all_sealed texts ++ rest) < 2 ^ 64 → all_sealed texts ++ rest ≡ all_sealed others ++ rest'
     → (texts ≡ others) × (rest ≡ rest')
+
+-- Lists of numbers that fit into eight bytes are written as different texts.
+abbrev pub ListsAreUnique : Type 0
+ListsAreUnique = (lists others : List (List ℕ)) → FitInEightBytes (numbers_of lists) → FitInEightBytes (numbers_of others)
+    → map number_list lists ≡ map number_list others → lists ≡ others

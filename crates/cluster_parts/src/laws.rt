@@ -1,16 +1,18 @@
 //! Laws: the counts of the partitions, and the terms that are kept of the blocks, are those of the whole document. Each
 //! law is the contract of a function that does nothing.
-ghost use Rattle.cluster_parts.specs.Laws.{BlocksJoin, FrontsAreUnique, NamesAddUp, QuadsAddUp, SealsAreUnique, TermsAddUp, TermsAreKept};
+ghost use Rattle.cluster_parts.specs.Laws.{BlocksJoin, FrontsAreUnique, ListsAreUnique, NamesAddUp, QuadsAddUp, SealsAreUnique, TermsAddUp, TermsAreKept};
 
 /// The quads of the blocks, one block after the other, are the quads of the document.
 pub fn blocks_join()
     ensures law { BlocksJoin }
 {}
 
-/// Bytes are the sealed texts of one list only. So a command reads the texts that another one sealed.
+/// Bytes are the sealed texts of one list only, and texts are the numbers of one list of lists only. So a command reads the
+/// texts and the hashes that another one sealed.
 pub fn seals_are_unique()
     ensures texts { SealsAreUnique }
     ensures fronts { FrontsAreUnique }
+    ensures lists { ListsAreUnique }
 {}
 
 /// The numbers of terms, and of graph names, that are counted in the partitions add up to those of the document.

@@ -4,12 +4,12 @@ ghost use Rattle.std.specs.Ordering.{nat_cmp};
 ghost use Rattle.indexmap.specs.IndexSet.{contains, insert_key};
 ghost use Rattle.cluster_parts.specs.Hash.{number_bytes};
 ghost use Rattle.cluster_parts.specs.Seal.{all_sealed, sealed};
-ghost use Rattle.cluster_parts.specs.Parts.{number_list};
+ghost use Rattle.cluster_parts.specs.Parts.{FitInEightBytes, number_list};
 ghost use Rattle.cluster_parts.specs.Repeated.{has, is_repeated, numbers_of, repeated_in, single};
 ghost use Rattle.cluster_parts.specs.Known.{items_of};
 
 use crate::sealing::{
-    SealFault, first_sealed, numbers_of, push_number, push_sealed, push_sealed_number,
+    SealFault, first_sealed, numbers_fit, numbers_of, push_number, push_sealed, push_sealed_number,
 };
 use indexmap::IndexSet;
 use keyed_hash::HashState;
@@ -45,11 +45,13 @@ pub(crate) fn set_of(
 /// Returns the numbers of some lists, one list after the other.
 fn joined(alloc: Global, lists: &[Vec<u64>]) -> Result<Vec<u64>, AllocError>
     ensures numbers { IfOk result (λ numbers. numbers.items ≡ numbers_of (items_of lists.now)) }
+    ensures fit { IfOk result (λ numbers. FitInEightBytes numbers.items) }
 {
     let mut numbers = Vec::new(alloc);
     for list in lists {
         numbers.extend_from_slice(list.as_slice())?;
     }
+    numbers_fit(numbers.as_slice());
     Ok(numbers)
 }
 
@@ -57,6 +59,7 @@ fn joined(alloc: Global, lists: &[Vec<u64>]) -> Result<Vec<u64>, AllocError>
 fn sorted_numbers(alloc: Global, lists: &[Vec<u64>]) -> Result<Vec<u64>, AllocError>
     ensures sorted { IfOk result (λ numbers. IsSorted nat_cmp numbers.items) }
     ensures same { IfOk result (λ numbers. IsPermutation (numbers_of (items_of lists.now)) numbers.items) }
+    ensures fit { OnOk result (FitInEightBytes (numbers_of (items_of lists.now))) }
 {
     let mut numbers = joined(alloc, lists)?;
     numbers.sort_unstable();
@@ -100,6 +103,7 @@ fn repeated_of(
 ) -> Result<(u64, IndexSet<u64, HashState>), AllocError>
     ensures single { IfOk result (λ r. r.0 ≡ length (single (numbers_of (items_of lists.now)))) }
     ensures again { IfOk result (λ r. (n : ℕ) → contains nat_eq r.1 n ≡ is_repeated (numbers_of (items_of lists.now)) n) }
+    ensures fit { OnOk result (FitInEightBytes (numbers_of (items_of lists.now))) }
 {
     let numbers = sorted_numbers(alloc, lists)?;
     let again = again_of(alloc, state, numbers.as_slice())?;
@@ -178,7 +182,8 @@ pub fn repeated_hashes(
     state: RandomState,
     bytes: &[u8],
 ) -> Result<Vec<u8>, SealFault>
-    ensures found { IfOk result (λ out. (lists : List (List ℕ)) × (bytes.now ≡ all_sealed (map number_list lists))
+    ensures found { IfOk result (λ out. (lists : List (List ℕ)) × FitInEightBytes (numbers_of lists)
+        × (bytes.now ≡ all_sealed (map number_list lists))
         × (out.items ≡ sealed (number_bytes (length (single (numbers_of lists))))
         ++ all_sealed (map number_list (repeated_in lists)))) }
 {

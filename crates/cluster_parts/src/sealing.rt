@@ -2,7 +2,7 @@
 ghost use Rattle.std.specs.Prelude.{◌≡◌, ◌∷◌, ◌++◌, [], List, ℕ, length, map, IfOk, IfSome, OnOk};
 ghost use Rattle.cluster_parts.specs.Hash.{hash, number_bytes};
 ghost use Rattle.cluster_parts.specs.Seal.{all_sealed, joined_texts, seal_head, sealed};
-ghost use Rattle.cluster_parts.specs.Parts.{number_list};
+ghost use Rattle.cluster_parts.specs.Parts.{FitInEightBytes, number_list};
 ghost use Rattle.cluster_parts.specs.Repeated.{numbers_of};
 ghost use Rattle.cluster_parts.specs.Known.{texts_of};
 
@@ -218,6 +218,11 @@ pub(crate) fn numbers_of(alloc: Global, bytes: &[u8]) -> Result<Vec<u64>, SealFa
     Ok(numbers)
 }
 
+/// Does nothing. Says that a number of the type `u64` fits into eight bytes.
+pub(crate) fn numbers_fit(_numbers: &[u64])
+    ensures fit { FitInEightBytes _numbers.now }
+{}
+
 /// Splits off the first sealed lists of numbers, of which there are `count`. Returns all their numbers, and what follows.
 ///
 /// # Errors
@@ -231,6 +236,7 @@ pub fn first_lists<'a>(
 ) -> Result<(Vec<u64>, &'a [u8]), SealFault>
     ensures lists { IfOk result (λ r. (lists : List (List ℕ)) × (length lists ≡ count) × (r.0.items ≡ numbers_of lists)
         × (bytes.now ≡ all_sealed (map number_list lists) ++ r.1.now)) }
+    ensures fit { IfOk result (λ r. FitInEightBytes r.0.items) }
 {
     let mut numbers = Vec::new(alloc);
     let mut rest = bytes;
@@ -239,5 +245,6 @@ pub fn first_lists<'a>(
         push_numbers(&mut numbers, text)?;
         rest = after;
     }
+    numbers_fit(numbers.as_slice());
     Ok((numbers, rest))
 }

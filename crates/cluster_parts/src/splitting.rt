@@ -8,7 +8,7 @@ ghost use Rattle.algebra_model.specs.Dataset.{names};
 ghost use Rattle.text_pieces.specs.Forms.{AreFormsOf};
 ghost use Rattle.cluster_parts.specs.Hash.{hash, number_bytes};
 ghost use Rattle.cluster_parts.specs.Keys.{remainders};
-ghost use Rattle.cluster_parts.specs.Parts.{hashes_in, is_in, number_list, texts_below};
+ghost use Rattle.cluster_parts.specs.Parts.{FitInEightBytes, hashes_in, is_in, number_list, texts_below};
 ghost use Rattle.cluster_parts.specs.Known.{counted_part};
 ghost use Rattle.cluster_parts.specs.Numbered.{AreQuadsOf};
 ghost use Rattle.cluster_parts.specs.Output.{AreHashesOf, check_parts};
@@ -18,7 +18,7 @@ use crate::hashing::text_hashes;
 use crate::numbering::{NumberedLines, number_lines};
 use crate::partitions::{is_in, remainders};
 use crate::quad_hashes::distinct_hashes_of;
-use crate::sealing::{push_number, push_sealed, push_sealed_number};
+use crate::sealing::{numbers_fit, push_number, push_sealed, push_sealed_number};
 use crate::term_lists::push_lines_part;
 use nquads_core::PieceFault;
 use std::alloc::{AllocError, Global};
@@ -119,6 +119,7 @@ fn counting_of(
     ensures all { IfOk result (λ counting. length counting.quad_parts.items ≡ length counting.quad_hashes.items) }
     ensures quads { IfOk result (λ counting. (quads : List QuadParts) → AreQuadsOf quads block.now
         → AreHashesOf quads counting.quad_hashes.items) }
+    ensures fit { IfOk result (λ counting. FitInEightBytes counting.quad_hashes.items) }
 {
     let names = names_of(alloc, state, block)?;
     let term_hashes = text_hashes(alloc, &block.texts)?;
@@ -127,6 +128,7 @@ fn counting_of(
     let term_parts = remainders(alloc, term_hashes.as_slice(), partitions)?;
     let name_parts = remainders(alloc, name_hashes.as_slice(), partitions)?;
     let quad_parts = remainders(alloc, quad_hashes.as_slice(), partitions)?;
+    numbers_fit(quad_hashes.as_slice());
     Ok(Counting {
         names,
         term_parts,
@@ -168,7 +170,8 @@ fn parts_of(
     requires read { (quads : List QuadParts) × AreQuadsOf quads block.now }
     requires some { 0 < partitions }
     ensures parts { IfOk result (λ out. (quads : List QuadParts) → AreQuadsOf quads block.now
-        → (hashes : List ℕ) × AreHashesOf quads hashes × (out.items ≡ check_parts partitions block.now.lines quads hashes)) }
+        → (hashes : List ℕ) × AreHashesOf quads hashes × FitInEightBytes hashes
+        × (out.items ≡ check_parts partitions block.now.lines quads hashes)) }
 {
     let counting = counting_of(alloc, state, block, partitions)?;
     let mut out = Vec::new(alloc);
@@ -196,7 +199,8 @@ pub fn split_for_check(
 ) -> Result<Vec<u8>, PieceFault>
     requires some { 0 < partitions }
     ensures parts { IfOk result (λ out. (quads : List QuadParts) × (hashes : List ℕ) × HaveStatements (lines block.now) quads
-        × AreHashesOf quads hashes × (out.items ≡ check_parts partitions (length (lines block.now)) quads hashes)) }
+        × AreHashesOf quads hashes × FitInEightBytes hashes
+        × (out.items ≡ check_parts partitions (length (lines block.now)) quads hashes)) }
     ensures bad_line { IfErr result
         (λ fault. (k : ℕ) → fault ≡ BadLine k → IsFirstMalformed (lines block.now) k) }
 {

@@ -5,7 +5,7 @@ use Rattle.nquads_core.specs.Lines.{lines}
 use Rattle.nquads_core.specs.Pieces.{HaveStatements, IsFirstMalformed}
 use Rattle.cluster_parts.specs.Hash.{number_bytes}
 use Rattle.cluster_parts.specs.Seal.{all_sealed, joined_texts, sealed}
-use Rattle.cluster_parts.specs.Parts.{number_list}
+use Rattle.cluster_parts.specs.Parts.{FitInEightBytes, number_list}
 use Rattle.cluster_parts.specs.Repeated.{numbers_of, repeated_in, single}
 use Rattle.dict_core.specs.Appearances.{terms_of, first_appearances}
 use Rattle.cluster_parts.specs.Output.{AreFirst, AreHashesOf, IsKept, again_parts, check_parts, distinct_lines, keyed_parts, terms_parts}
@@ -24,6 +24,7 @@ pub record IsSplit (partitions : ℕ) (input output : List ℕ) : Type 0 where
   pub hashes : List ℕ
   pub statements : HaveStatements (lines input) quads
   pub hashed : AreHashesOf quads hashes
+  pub fit : FitInEightBytes hashes
   pub parts : output ≡ check_parts partitions (length (lines input)) quads hashes
 
 -- `count`: the number of distinct lines of sealed texts, as a line
@@ -35,6 +36,7 @@ pub record IsCounted (input output : List ℕ) : Type 0 where
 -- `repeated`: of sealed lists of hashes how many hashes occur once, and then those of each list that occur again
 pub record IsRepeatedIn (input output : List ℕ) : Type 0 where
   pub lists : List (List ℕ)
+  pub fit : FitInEightBytes (numbers_of lists)
   pub unsealed : input ≡ all_sealed (map number_list lists)
   pub numbers_sealed : output ≡ sealed (number_bytes (length (single (numbers_of lists)))) ++ all_sealed (map number_list (repeated_in lists))
 
@@ -44,6 +46,7 @@ pub record IsAgain (partitions : ℕ) (input output : List ℕ) : Type 0 where
   pub block : List ℕ
   pub quads : List QuadParts
   pub one_each : length lists ≡ partitions
+  pub fit : FitInEightBytes (numbers_of lists)
   pub unsealed : input ≡ all_sealed (map number_list lists) ++ block
   pub statements : HaveStatements (lines block) quads
   pub parts : output ≡ again_parts (numbers_of lists) partitions quads
@@ -119,6 +122,7 @@ pub record IsBadBlock (partitions : ℕ) (input : List ℕ) (k : ℕ) : Type 0 w
   pub lists : List (List ℕ)
   pub block : List ℕ
   pub one_each : length lists ≡ partitions
+  pub fit : FitInEightBytes (numbers_of lists)
   pub unsealed : input ≡ all_sealed (map number_list lists) ++ block
   pub malformed : IsFirstMalformed (lines block) k
 

@@ -4,7 +4,7 @@ ghost use Rattle.nquads_core.specs.Lines.{lines};
 ghost use Rattle.nquads_core.specs.Pieces.{HaveStatements, IsFirstMalformed};
 ghost use Rattle.rdf_core.specs.QuadParts.{QuadParts};
 ghost use Rattle.cluster_parts.specs.Seal.{all_sealed, joined_texts};
-ghost use Rattle.cluster_parts.specs.Parts.{number_list};
+ghost use Rattle.cluster_parts.specs.Parts.{FitInEightBytes, number_list};
 ghost use Rattle.cluster_parts.specs.Output.{again_parts};
 ghost use Rattle.cluster_parts.specs.Repeated.{numbers_of};
 ghost use Rattle.part_core.specs.Output.{HasPartitions, IsAgain, IsBadBlock, IsBadInput, IsCounted, IsFirstOf, IsKeptOf, IsOutput, IsRepeatedIn, IsPlanned, IsQuadSplit, IsSplit, IsTermSplit, IsUnsealed, limit_word, merge_line};
@@ -89,6 +89,7 @@ fn hashes_and_block(
 ) -> Result<(Vec<u64>, &[u8]), PartFault>
     ensures lists { IfOk result (λ r. (lists : List (List ℕ)) × (length lists ≡ partitions) × (r.0.items ≡ numbers_of lists)
         × (input.now ≡ all_sealed (map number_list lists) ++ r.1.now)) }
+    ensures fit { IfOk result (λ r. FitInEightBytes r.0.items) }
     ensures no_line { IfErr result (λ fault. (k : ℕ) → fault ≡ BadLine k → ⊥) }
 {
     match first_lists(alloc, input, partitions) {

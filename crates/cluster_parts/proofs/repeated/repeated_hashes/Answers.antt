@@ -1,7 +1,7 @@
-use Rattle.std.proofs.Common.{◌++◌, ap, filter, length, map, nat_eq, ◌∙◌}
+use Rattle.std.proofs.Common.{◌++◌, ap, filter, length, map, nat_eq, subst, ◌∙◌}
 use Rattle.indexmap.specs.IndexSet.{contains}
 use Rattle.cluster_parts.specs.Known.{items_of}
-use Rattle.cluster_parts.specs.Parts.{number_list}
+use Rattle.cluster_parts.specs.Parts.{FitInEightBytes, number_list}
 use Rattle.cluster_parts.specs.Repeated.{is_repeated, numbers_of, single}
 use Rattle.cluster_parts.specs.Seal.{all_sealed}
 use Rattle.cluster_parts.proofs.PartSteps.{repeated_lists}
@@ -13,6 +13,7 @@ returns c =
     let again = contains nat_eq c.in_ok-count.again in record {
       found = (
         lists,
+        subst (λ l. FitInEightBytes (numbers_of (items_of l))) c.as_slice.ensures.value c.in_ok-count.ensures.fit,
         c.in_ok-lists.ensures.lists,
         repeated_lists again c.in_ok-count.count lists _ _ _
             (c.in_ok-count.ensures.single ∙ ap (λ l. length (single (numbers_of (items_of l)))) c.as_slice.ensures.value)

@@ -10,4 +10,5 @@ returns c =
     let sorted = c.in_ok-numbers.numbers.items in record {
       single = c.count_single.ensures.count ∙ length_single numbers sorted c.in_ok-numbers.ensures.same;
       again = λ n. c.in_ok-again.ensures.again n ∙ ap (λ l. is_repeated l n) c.as_slice.ensures.value ∙ repeated_moved numbers sorted c.in_ok-numbers.ensures.same n;
+      fit = c.in_ok-numbers.ensures.fit;
     }

@@ -1,8 +1,10 @@
 use Rattle.std.proofs.Common.{subst, IsPermutation}
+use Rattle.cluster_parts.specs.Parts.{FitInEightBytes}
 use Rattle.cluster_parts.proofs.repeated.sorted_numbers.Goals as goal
 
 pub returns : goal.returns
 returns c = record {
   sorted = c.sort_unstable.ensures.sorted;
   same = subst (λ l. IsPermutation l c.sort_unstable.new.self.items) c.in_ok-numbers.ensures.numbers c.sort_unstable.ensures.permutation;
+  fit = subst FitInEightBytes c.in_ok-numbers.ensures.numbers c.in_ok-numbers.ensures.fit;
 }

@@ -1,4 +1,5 @@
-use Rattle.std.proofs.Common.{rules, ◌≡◌, ◌∷◌, ◌++◌, [], refl, arith, length-append, ◌∙◌}
+use Rattle.std.proofs.Common.{rules, ◌≡◌, ◌∷◌, ◌++◌, [], refl, arith, length-append, subst, ◌∙◌}
+use Rattle.cluster_parts.specs.Parts.{FitInEightBytes}
 use Rattle.cluster_parts.proofs.PartSteps.{more_numbers, one_more_list}
 use Rattle.cluster_parts.proofs.sealing.first_lists.Goals as goal
 
@@ -19,4 +20,4 @@ pub returns : goal.returns
 returns c =
     let was = c.loop-list.invariant in
     let all : c.loop-list._list ≡ c.args.count = search rules in
-    record { lists = (was.0, was.1 ∙ all, was.2, was.3) }
+    record { lists = (was.0, was.1 ∙ all, was.2, was.3); fit = subst FitInEightBytes c.as_slice.ensures.value c.numbers_fit.ensures.fit }

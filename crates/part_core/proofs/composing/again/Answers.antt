@@ -1,4 +1,5 @@
-use Rattle.std.proofs.Common.{ap, ◌∙◌}
+use Rattle.std.proofs.Common.{ap, subst, ◌∙◌}
+use Rattle.cluster_parts.specs.Parts.{FitInEightBytes}
 use Rattle.cluster_parts.specs.Output.{again_parts}
 use Rattle.part_core.proofs.composing.again.Goals as goal
 
@@ -10,6 +11,7 @@ returns-in-Ok-clause-output c =
       block = c.in_ok-hashes.block.now;
       quads = found.0;
       one_each = read.1;
+      fit = subst FitInEightBytes read.2 c.in_ok-hashes.ensures.fit;
       unsealed = read.3;
       statements = found.1;
       parts = found.2 ∙ ap (λ hs. again_parts hs c.args.partitions found.0) (c.as_slice.ensures.value ∙ read.2);
@@ -21,6 +23,7 @@ returns-clause-bad_line c = λ k e.
       lists = read.0;
       block = c.in_ok-hashes.block.now;
       one_each = read.1;
+      fit = subst FitInEightBytes read.2 c.in_ok-hashes.ensures.fit;
       unsealed = read.3;
       malformed = c.in-Err.ensures.bad_line k e;
     }

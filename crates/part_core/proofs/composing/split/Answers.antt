@@ -2,4 +2,11 @@ use Rattle.part_core.proofs.composing.split.Goals as goal
 
 pub returns-in-Ok-clause-output : goal.returns-in-Ok-clause-output
 returns-in-Ok-clause-output c =
-    let found = c.in-Ok.ensures.parts in record { quads = found.0; hashes = found.1; statements = found.2; hashed = found.3; parts = found.4 }
+    let found = c.in-Ok.ensures.parts in record {
+      quads = found.0;
+      hashes = found.1;
+      statements = found.2;
+      hashed = found.3;
+      fit = found.4;
+      parts = found.5;
+    }
