@@ -204,27 +204,34 @@ pub(crate) fn add_separated(
     requires wide { made.old.width ≡ left.now.width }
     ensures evaluated { AreStillEvaluated dict.now keys.now made.old made.new }
 {
-    if tested.place.is_counted() && !tested.is_last() {
-        let pairs = Pairs {
-            alloc,
-            dict,
-            left,
-            right,
-            keys,
-            condition: tested.condition,
-            place: tested.place,
-        };
-        let fails = pairs.may_fail() && !are_all_added(&pairs, tested, made);
-        pairs.note(tested.around, made.len(), fails);
+    if !tested.place.is_counted() || tested.is_last() {
+        return;
     }
+    let pairs = Pairs {
+        alloc,
+        dict,
+        left,
+        right,
+        keys,
+        condition: tested.condition,
+        place: tested.place,
+    };
+    let fails = add_failing(&pairs, tested, made);
+    pairs.note(tested.around, made.len(), fails);
 }
 
-/// Adds the pairs over which an equality may be an error, if there is room for them. Returns whether all of
-/// them were added. Without memory for it, they are not.
-fn are_all_added(pairs: &Pairs<'_>, tested: &Tested<'_>, made: &mut Rows) -> bool
+/// Adds the pairs over which an equality may be an error, if there is room for them. Returns whether there may
+/// be more of them. Without memory for it, not all of them are added.
+fn add_failing(pairs: &Pairs<'_>, tested: &Tested<'_>, made: &mut Rows) -> bool
     requires wide { made.old.width ≡ pairs.now.left.now.width }
     ensures evaluated { AreStillEvaluated pairs.now.dict.now pairs.now.keys.now made.old made.new }
 {
+    if !pairs.may_fail() {
+        return false;
+    }
     let most = made.len().saturating_add(tested.most_pairs());
-    pairs.add_to(made, most).unwrap_or(false)
+    match pairs.add_to(made, most) {
+        Ok(are_all) => !are_all,
+        Err(_) => true,
+    }
 }

@@ -2,13 +2,14 @@
 //! tested after further joins is tested on them, too.
 //!
 //! The terms of such a pair have different keys, so the condition is not true of it: the result is the same.
-ghost use Rattle.std.specs.Prelude.{◌≡◌, ◌<◌, false, true, nat_eq, option_map, length, OnTrue};
+ghost use Rattle.std.specs.Prelude.{◌≡◌, ◌<◌, false, true, nat_eq, option_map, length, OnOk};
+ghost use Rattle.std.specs.Bool.{OnTrue};
 ghost use Rattle.algebra_model.specs.Renaming.{read_row};
 ghost use Rattle.algebra_model.specs.Solution.{agree, is_compatible, merge};
 ghost use Rattle.dict_core.specs.Dict.{term_at};
 ghost use Rattle.sparql_eval.specs.Fitting.{AreStillEvaluated, fits};
 ghost use Rattle.sparql_eval.specs.KeyedRows.{key_number};
-ghost use Rattle.sparql_eval.specs.Numbered.{IsKnownAt, IsKnownCell};
+ghost use Rattle.sparql_eval.specs.Numbered.{AreKnownAt, IsKnownAt, IsKnownCell};
 
 use crate::equalities::Equality;
 use crate::keyed_rows::key_cell;
@@ -109,13 +110,28 @@ impl<'a> Pairs<'a> {
             }
             *looks -= 1;
             let other = row.wrapping_add(step) % others;
-            match side {
-                Side::Left => self.add_pair(*row, other, buffers, made)?,
-                Side::Right if self.row_may_fail(Side::Left, other) => (),
-                Side::Right => self.add_pair(other, *row, buffers, made)?,
-            }
+            self.add_at(side, *row, other, buffers, made)?;
         }
         Ok(true)
+    }
+
+    fn add_at(
+        &self,
+        side: Side,
+        row: usize,
+        other: usize,
+        buffers: &mut Buffers,
+        made: &mut Rows,
+    ) -> Result<(), AllocError>
+        requires wide { made.old.width ≡ self.now.left.now.width }
+        ensures evaluated { AreStillEvaluated self.now.dict.now self.now.keys.now made.old made.new }
+        ensures width { made.new.width ≡ made.old.width }
+    {
+        match side {
+            Side::Left => self.add_pair(row, other, buffers, made),
+            Side::Right if self.row_may_fail(Side::Left, other) => Ok(()),
+            Side::Right => self.add_pair(other, row, buffers, made),
+        }
     }
 
     /// Adds the merge of a left row and a right row, if they are compatible and have different keys.
@@ -133,25 +149,82 @@ impl<'a> Pairs<'a> {
         if row >= self.left.len() || other >= self.right.len() {
             return Ok(());
         }
-        let _distinct = self.dict.len();
-        self.left.read(row, &mut buffers.row)?;
-        self.right.read(other, &mut buffers.other)?;
-        let row = buffers.row.as_slice();
-        let other = buffers.other.as_slice();
-        if is_compatible(row, other) && are_apart(self.dict, row, other, self.keys) {
-            merge_into(&mut buffers.merged, row, other)?;
-            made.push(&buffers.merged)?;
-        }
-        Ok(())
+        read_known(self.dict, self.left, row, &mut buffers.row)?;
+        read_known(self.dict, self.right, other, &mut buffers.other)?;
+        let one = buffers.row.as_slice();
+        let another = buffers.other.as_slice();
+        add_merge(
+            self.dict,
+            self.keys,
+            one,
+            another,
+            &mut buffers.merged,
+            made,
+        )
     }
 }
 
-/// Returns whether the terms of some key have different key numbers. If so, the merge of the rows does not fit.
-fn are_apart(
+/// Replaces the contents of `cells` with a row.
+fn read_known(
+    _dict: &Dict,
+    rows: &Rows,
+    row: usize,
+    cells: &mut Vec<Option<u64>>,
+) -> Result<(), AllocError>
+    requires known { AreKnownAt _dict.now rows.now.rows }
+    requires inside { row < length rows.now.rows }
+    ensures known { OnOk result (IsKnownAt _dict.now cells.new.items) }
+    ensures wide { OnOk result (length cells.new.items ≡ rows.now.width) }
+{
+    rows.read(row, cells)
+}
+
+/// Adds the merge of two rows, if they are compatible and have different keys.
+fn add_merge(
     dict: &Dict,
+    keys: &[Equality],
     row: &[Option<u64>],
     other: &[Option<u64>],
+    merged: &mut Vec<Option<u64>>,
+    made: &mut Rows,
+) -> Result<(), AllocError>
+    requires known_row { IsKnownAt dict.now row.now }
+    requires known_other { IsKnownAt dict.now other.now }
+    requires same_width { length row.now ≡ length other.now }
+    requires wide { made.old.width ≡ length row.now }
+    ensures evaluated { AreStillEvaluated dict.now keys.now made.old made.new }
+    ensures width { made.new.width ≡ made.old.width }
+{
+    if are_separated(dict, keys, row, other) {
+        merge_into(merged, row, other)?;
+        let cells = merged.as_slice();
+        return made.push(cells);
+    }
+    Ok(())
+}
+
+/// Returns whether two rows are compatible and have different keys. If so, their merge does not fit.
+fn are_separated(
+    dict: &Dict,
     keys: &[Equality],
+    row: &[Option<u64>],
+    other: &[Option<u64>],
+) -> bool
+    requires known_row { IsKnownAt dict.now row.now }
+    requires known_other { IsKnownAt dict.now other.now }
+    requires same_width { length row.now ≡ length other.now }
+    ensures unfit { OnTrue result
+        (fits keys.now (read_row (term_at dict.now) (merge row.now other.now)) ≡ false) }
+{
+    is_compatible(row, other) && have_different_keys(dict, keys, row, other)
+}
+
+/// Returns whether the terms of some key have different key numbers.
+fn have_different_keys(
+    dict: &Dict,
+    keys: &[Equality],
+    row: &[Option<u64>],
+    other: &[Option<u64>],
 ) -> bool
     requires known_row { IsKnownAt dict.now row.now }
     requires known_other { IsKnownAt dict.now other.now }
@@ -159,10 +232,11 @@ fn are_apart(
         → fits keys.now (read_row (term_at dict.now) (merge row.now other.now)) ≡ false) }
 {
     let _distinct = dict.len();
-    for key in keys {
+    for i in 0..keys.len() {
+        let key = keys[i];
         let one = number_at(row, key.left.variable);
         let another = number_at(other, key.right.variable);
-        if have_different_keys(dict, one, another) {
+        if are_apart(dict, one, another) {
             return true;
         }
     }
@@ -170,7 +244,7 @@ fn are_apart(
 }
 
 /// Returns whether both cells are bound to terms with different key numbers.
-fn have_different_keys(dict: &Dict, one: Option<u64>, other: Option<u64>) -> bool
+fn are_apart(dict: &Dict, one: Option<u64>, other: Option<u64>) -> bool
     requires known_one { IsKnownCell dict.now one }
     requires known_other { IsKnownCell dict.now other }
     ensures apart { OnTrue result (agree nat_eq (option_map (key_number dict.now) one)
