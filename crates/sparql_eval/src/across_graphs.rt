@@ -218,24 +218,14 @@ impl<'c, 'i, 'e, R: Threads + Wait, G: Gate + Sync> Evaluator<'c, 'i, 'e, R, G> 
             if is_closed(right) {
                 let later = self.tested_after(tested, &dict, None, right);
                 let (rows, dict) = self.solve_each_where(
-                    dict,
-                    variable,
-                    graphs,
-                    left,
-                    pairs,
-                    &later,
+                    dict, variable, graphs, left, pairs, &later,
                 )?;
                 return self.solve_join_where(dict, None, rows, right, pairs, tested);
             }
             if is_closed(left) {
                 let later = self.tested_after(tested, &dict, None, left);
                 let (others, dict) = self.solve_each_where(
-                    dict,
-                    variable,
-                    graphs,
-                    right,
-                    pairs,
-                    &later,
+                    dict, variable, graphs, right, pairs, &later,
                 )?;
                 return self.solve_join_where(dict, None, others, left, pairs, tested);
             }

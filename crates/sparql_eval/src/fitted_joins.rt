@@ -47,14 +47,6 @@ pub(crate) fn join_where<R: Threads + Wait, G: Gate + Sync>(
     }
     count_separated(context.alloc, &dict, &left, &right, keys, tested);
     let mut made = joined_by_keys(context, state, &dict, &left, &right, keys)?;
-    add_separated(
-        context.alloc,
-        &dict,
-        &left,
-        &right,
-        keys,
-        tested,
-        &mut made,
-    );
+    add_separated(context.alloc, &dict, &left, &right, keys, tested, &mut made);
     Ok((made, dict))
 }

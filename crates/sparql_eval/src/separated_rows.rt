@@ -204,12 +204,7 @@ fn add_merge(
 }
 
 /// Returns whether two rows are compatible and have different keys. If so, their merge does not fit.
-fn are_separated(
-    dict: &Dict,
-    keys: &[Equality],
-    row: &[Option<u64>],
-    other: &[Option<u64>],
-) -> bool
+fn are_separated(dict: &Dict, keys: &[Equality], row: &[Option<u64>], other: &[Option<u64>]) -> bool
     requires known_row { IsKnownAt dict.now row.now }
     requires known_other { IsKnownAt dict.now other.now }
     requires same_width { length row.now ≡ length other.now }

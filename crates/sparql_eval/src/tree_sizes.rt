@@ -31,19 +31,17 @@ impl<'c, 'i, 'e, R: Threads + Wait, G: Gate + Sync> Evaluator<'c, 'i, 'e, R, G> 
 
     /// Returns the number of rows of a tree, or a larger one. A basic graph pattern is taken to have no more
     /// rows than there are quads.
-    fn most_rows(
-        &self,
-        dict: &Dict,
-        active: Option<u64>,
-        tree: &Operator,
-        height: usize,
-    ) -> usize {
+    fn most_rows(&self, dict: &Dict, active: Option<u64>, tree: &Operator, height: usize) -> usize {
         if height == 0 {
             return self.quads();
         }
         let below = height - 1;
         match tree {
-            Operator::Pattern { triples, .. } => self.most_matches(dict, active, triples.as_slice()),
+            Operator::Pattern { triples, .. } => self.most_matches(
+                dict,
+                active,
+                triples.as_slice(),
+            ),
             Operator::Join { left, right } => {
                 let rows = self.most_rows(dict, active, left, below);
                 rows.saturating_mul(self.most_rows(dict, active, right, below))
