@@ -11,6 +11,7 @@ Python 3 standard library.
 """
 import argparse
 import concurrent.futures
+import math
 import os
 import random
 import re
@@ -865,6 +866,40 @@ def large():
         yield document, f"{pairs}{more}FILTER(?x = ?y) }}", [*missing, note]
 
 
+def further():
+    """Yields cases with two groups that are joined to others before `?x = ?y` is tested. They have too many pairs for all of them to be tested.
+    No term of one is equal to a term of the other, so without the pairs over which `=` is an error nothing would be tested at all."""
+    most = 1_000_000
+    double, whole = (lambda at: literal(f"{at}.5e0", XSD + "double")), (lambda at: literal(str(at), XSD + "integer"))
+    xs, ys, blank = [whole(at) for at in range(300)], [whole(at) for at in range(1000, 1300)], ("blank", "b")
+    equal, texts = compare("=", "x", "y"), compare("=", ("STR", var("x")), ("STR", var("y")))
+    both, is_literal = ("and", equal, compare("=", "y", "x")), ("isLITERAL", var("x"))
+    for condition, left, right, groups, *inner in (
+            (equal, [double(0), *xs[1:]], ys, [50]), (equal, xs, [*ys[:299], double(0)], [50]), (both, [*xs[:150], double(0), *xs[151:]], ys, [50]),
+            (equal, [double(at) for at in range(9)] + xs[9:], [*ys[2:], double(10), double(11)], [50]), (equal, [double(0), *xs[1:]], ys, [40, 30]),
+            (equal, xs, [double(0), *ys[1:]], [2, 3, 4, 5]), (equal, [double(at) for at in range(300)], ys, [50]), (equal, xs, ys, [50]),
+            (equal, [double(0), *xs[1:]], ys, [50], is_literal), (texts, [blank, *xs[1:]], ys, [50]), (texts, xs, [*ys[1:], blank], [20, 5])):
+        quads = [(("iri", f"http://e/{name}{at}"), ("iri", f"http://e/{name}"), it, None) for name, terms in (("p", left), ("q", right)) for at, it in enumerate(terms)]
+        quads += [(("iri", "http://e/r"), ("iri", f"http://e/r{which}"), whole(at), None) for which, rows in enumerate(groups) for at in range(rows)]
+        parts = [("p", "x"), ("q", "y"), *((f"r{which}", f"z{which}") for which in range(len(groups)))]
+        group = [("group", [("triples", [(var(f"s{name}"), ("iri", f"http://e/{name}"), var(item))])]) for name, item in parts]
+        if inner:
+            group = [("group", [*group[:2], where(*inner[0])]), *group[2:]]
+        writer, model, each = Writer(random.Random(1)), Model(quads), math.prod(groups)
+        writer.put("SELECT", "*")
+        writer.group([*group, where(*condition)], "", False, False)
+        for x in left:
+            for y in right:
+                model.note(("filter",), [condition], {"x": x, "y": y})
+        pairs = sum(count for count, _ in model.counts.values())
+        for count in model.counts.values():
+            count[0] *= each
+        notes = model.notes(writer.sites)
+        if pairs * each > most:
+            notes = [it.replace(f"{pairs * each} rows", f"at least {most // each * each} rows") for it in notes]
+        yield "".join(" ".join(written(it) for it in quad if it) + " .\n" for quad in quads), writer.text, writer.notes(quads) + notes
+
+
 def tags():
     """Returns cases with language tags in capitals, of which each that LANG, or a variable bound to it, is compared with has a note."""
     start = "SELECT ?s { ?s <http://e/label> ?l "
@@ -909,7 +944,7 @@ def main():
     given = words.parse_args()
     if not os.path.exists(given.program):
         sys.exit(f"no program at {given.program}: build it first (see README)")
-    made = {f"query {at}": it for at, it in enumerate([*daily(), *large(), *tags()], 1)}
+    made = {f"query {at}": it for at, it in enumerate([*daily(), *large(), *further(), *tags()], 1)}
     made |= {f"case {seed}": case(seed) for seed in range(given.seed, given.seed + given.count)}
     with concurrent.futures.ThreadPoolExecutor(os.cpu_count()) as pool:
         found = list(pool.map(lambda it: wrong(os.path.abspath(given.program), *it), made.values()))

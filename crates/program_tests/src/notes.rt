@@ -185,6 +185,10 @@ spq: note: FILTER at line 2, column 48: 2 rows are left out, since values of xsd
 SELECT * { { ?s :weight ?x } { ?t :weight ?y } { ?u :label ?l } FILTER(?x = ?y) }
 spq: note: FILTER at line 2, column 65: 6 rows are left out, since values of xsd:double are not compared (compare STR(..), if the order of the texts is that of the values)
 
+SELECT * { { ?s ?p ?x } { ?t :size ?y } { ?s ?a ?b } { ?s ?c ?d } { ?s ?e ?f } { ?s ?g ?h } FILTER(?x = ?y) }
+spq: note: FILTER at line 2, column 93: 3842 rows are left out, since values of xsd:double are not compared (compare STR(..), if the order of the texts is that of the values)
+spq: note: FILTER at line 2, column 93: 1921 rows are left out, since the text of a literal is no xsd:integer
+
 SELECT * { ?s :weight ?x OPTIONAL { ?t :weight ?y FILTER(?x = ?y) } }
 spq: note: FILTER at line 2, column 51: 2 rows are treated as no match, since values of xsd:double are not compared (compare STR(..), if the order of the texts is that of the values)
 

@@ -93,7 +93,7 @@ module _ (terms : List Term) (once : AreDistinct terms) where
       by None p = ap (key_number terms) (apart terms once n m low high (h.1 p))
 
   module _ (μ ν : Solution ℕ) (knownL : Known terms μ) (knownR : Known terms ν) (c : is_compatible nat_eq μ ν ≡ true) where
-    cells_agree : (x y : ℕ) → meet (get_or (read_by terms (merge μ ν)) x None) (get_or (read_by terms (merge μ ν)) y None) ≡ true
+    pub cells_agree : (x y : ℕ) → meet (get_or (read_by terms (merge μ ν)) x None) (get_or (read_by terms (merge μ ν)) y None) ≡ true
         → agree nat_eq (option_map (key_number terms) (get_or μ x None)) (option_map (key_number terms) (get_or ν y None)) ≡ true
     cells_agree x y h = by (get_or μ x None) (get_or ν y None) (get_or μ y None) refl refl refl
       where

@@ -39,3 +39,7 @@ pub record IsEvaluatedWhere
   pub wide : made.width ≡ width
   pub known : AreKnown terms' made
   pub bag : IsSameBag (filter test (solutions_of terms' made)) (filter test A)
+
+-- the new rows are evaluated for all that the old ones are evaluated for
+abbrev pub AreStillEvaluated : List Term → List Equality → RowList → RowList → Type 0
+AreStillEvaluated terms pairs old new = (width : ℕ) (A : List (Solution Term)) → IsEvaluatedWhere terms width (fits pairs) A old terms → IsEvaluatedWhere terms width (fits pairs) A new terms

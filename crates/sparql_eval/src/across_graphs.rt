@@ -176,9 +176,8 @@ impl<'c, 'i, 'e, R: Threads + Wait, G: Gate + Sync> Evaluator<'c, 'i, 'e, R, G> 
         let tested = Tested {
             condition,
             place,
-            joins: 0,
+            further: None,
             around: &[],
-            quads: self.quads(),
         };
         let (solved, dict) = self.solve_each_where(
             dict,
@@ -217,24 +216,16 @@ impl<'c, 'i, 'e, R: Threads + Wait, G: Gate + Sync> Evaluator<'c, 'i, 'e, R, G> 
     {
         if let Operator::Join { left, right } = inner {
             if is_closed(right) {
+                let later = self.tested_after(tested, &dict, None, right);
                 let (rows, dict) = self.solve_each_where(
-                    dict,
-                    variable,
-                    graphs,
-                    left,
-                    pairs,
-                    &tested.after_a_join(),
+                    dict, variable, graphs, left, pairs, &later,
                 )?;
                 return self.solve_join_where(dict, None, rows, right, pairs, tested);
             }
             if is_closed(left) {
+                let later = self.tested_after(tested, &dict, None, left);
                 let (others, dict) = self.solve_each_where(
-                    dict,
-                    variable,
-                    graphs,
-                    right,
-                    pairs,
-                    &tested.after_a_join(),
+                    dict, variable, graphs, right, pairs, &later,
                 )?;
                 return self.solve_join_where(dict, None, others, left, pairs, tested);
             }

@@ -21,7 +21,7 @@ use crate::equalities::{Equality, with_equalities};
 use crate::evaluator::Evaluator;
 use crate::filters::filter_with;
 use crate::fitted_joins::join_where;
-use crate::separated::{Tested, joins_around, places_around};
+use crate::separated::{Tested, further_around, places_around};
 use dict_core::Dict;
 use expression_errors::Owner;
 use piece_pool::Gate;
@@ -83,9 +83,8 @@ impl<'c, 'i, 'e, R: Threads + Wait, G: Gate + Sync> Evaluator<'c, 'i, 'e, R, G> 
         let tested = Tested {
             condition,
             place,
-            joins: joins_around(pairs, outer),
+            further: further_around(pairs, outer),
             around,
-            quads: self.quads(),
         };
         let (rows, dict) = self.solve_where(dict, active, inner, all.as_slice(), &tested)?;
         filter_with(&self.context, dict, &rows, condition, place)
@@ -113,13 +112,8 @@ impl<'c, 'i, 'e, R: Threads + Wait, G: Gate + Sync> Evaluator<'c, 'i, 'e, R, G> 
     {
         match tree {
             Operator::Join { left, right } => {
-                let (left, dict) = self.solve_where(
-                    dict,
-                    active,
-                    left,
-                    pairs,
-                    &tested.after_a_join(),
-                )?;
+                let later = self.tested_after(tested, &dict, active, right);
+                let (left, dict) = self.solve_where(dict, active, left, pairs, &later)?;
                 self.solve_join_where(dict, active, left, right, pairs, tested)
             }
             Operator::Filter { condition, inner } => {
@@ -158,7 +152,7 @@ impl<'c, 'i, 'e, R: Threads + Wait, G: Gate + Sync> Evaluator<'c, 'i, 'e, R, G> 
             &left,
             right,
             pairs,
-            &tested.after_a_join(),
+            &tested.after_a_join(left.len()),
         )?;
         join_where(&self.context, self.state, dict, left, right, pairs, tested)
     }

@@ -11,8 +11,7 @@ use crate::equalities::Equality;
 use crate::joins::join_of;
 use crate::keyed_joins::joined_by_keys;
 use crate::keyed_rows::join_keys;
-use crate::operator_result::with_dict;
-use crate::separated::{Tested, count_separated, is_joined_whole, note_left_out};
+use crate::separated::{Tested, add_separated, count_separated, is_joined_whole};
 use dict_core::Dict;
 use piece_pool::Gate;
 use row_core::Rows;
@@ -47,7 +46,7 @@ pub(crate) fn join_where<R: Threads + Wait, G: Gate + Sync>(
         return join_of(context, state, dict, left, right);
     }
     count_separated(context.alloc, &dict, &left, &right, keys, tested);
-    let made = joined_by_keys(context, state, &dict, &left, &right, keys);
-    note_left_out(context.alloc, &dict, &left, &right, keys, tested, &made);
-    with_dict(made, dict)
+    let mut made = joined_by_keys(context, state, &dict, &left, &right, keys)?;
+    add_separated(context.alloc, &dict, &left, &right, keys, tested, &mut made);
+    Ok((made, dict))
 }

@@ -245,9 +245,8 @@ fn left_joined<R: Threads + Wait, G: Gate + Sync>(
     let tested = Tested {
         condition,
         place,
-        joins: 0,
+        further: None,
         around: &[],
-        quads: 0,
     };
     if is_joined_whole(context.alloc, dict, left, right, keys, &tested) {
         return left_joined_by_rows(context, state, dict, left, right, condition, place);

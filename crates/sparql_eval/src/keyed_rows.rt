@@ -134,7 +134,7 @@ fn add_keys(
 }
 
 /// Returns the key number of a cell's term, or None if the cell is unbound.
-fn key_cell(dict: &Dict, cell: Option<u64>) -> Option<u64>
+pub(crate) fn key_cell(dict: &Dict, cell: Option<u64>) -> Option<u64>
     requires known { IsKnownCell dict.now cell }
     ensures value { result ≡ option_map (key_number dict.now) cell }
 {

@@ -27,13 +27,33 @@ pub(crate) fn most_compatible(
     Ok(most)
 }
 
-/// Returns the number of pairs that bind a variable to the same term, or None if a row leaves it unbound.
+/// Returns whether some variable may be bound in all rows of both sides. If none is, `most_compatible` is the
+/// number of all pairs.
+pub(crate) fn may_share(left: &Rows, right: &Rows) -> bool {
+    for variable in 0..left.width() {
+        if is_first_bound(left, variable) && is_first_bound(right, variable) {
+            return true;
+        }
+    }
+    false
+}
+
+/// Returns whether the first row binds the variable.
+fn is_first_bound(rows: &Rows, variable: usize) -> bool {
+    rows.len() > 0 && variable < rows.width() && rows.get(0, variable).is_some()
+}
+
+/// Returns the number of pairs that bind a variable to the same term, or None if a row leaves it unbound. The
+/// first rows are looked at first, since sorting takes long.
 fn pairs_at(
     alloc: Global,
     left: &Rows,
     right: &Rows,
     variable: usize,
 ) -> Result<Option<usize>, AllocError> {
+    if !is_first_bound(left, variable) || !is_first_bound(right, variable) {
+        return Ok(None);
+    }
     let Some(numbers) = numbers_at(alloc, left, variable)? else {
         return Ok(None);
     };

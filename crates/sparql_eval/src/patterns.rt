@@ -157,7 +157,7 @@ fn number_triples(
 /// Replaces each term of a triple pattern by its number. Returns None if the dictionary lacks one
 /// of the terms.
 #[tactic(auto, using(crate::proofs::PatternSteps::lacks_subject, crate::proofs::PatternSteps::lacks_predicate, crate::proofs::PatternSteps::lacks_object, crate::proofs::PatternSteps::triple_found))]
-fn number_triple(dict: &Dict, triple: &TriplePattern) -> Option<NumberedTriple>
+pub(crate) fn number_triple(dict: &Dict, triple: &TriplePattern) -> Option<NumberedTriple>
     ensures numbered { MatchOption result (LacksTriple dict.now (triple_pattern_of triple.now))
         (λ t. IsPatternOf dict.now (triple_pattern_of triple.now) (pattern_of t)) }
 {

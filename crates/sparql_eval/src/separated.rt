@@ -7,18 +7,22 @@
 //!
 //! If a condition is one equality of variables, its value over a pair depends on the classes of the two
 //! terms (`separated_classes`). Other conditions are tested on each pair with such a term, up to a
-//! limit (`separated_pairs`). If there are few pairs, or the condition is tested after other filters or
-//! joins, all pairs are joined, so that it is tested on each of them. If there are too many, it is noted
-//! that some were left out.
+//! limit (`separated_pairs`).
+//!
+//! If the condition is tested after other filters or joins, and there are few pairs, all pairs are joined, so
+//! that it is tested on each of them. If there are too many, those with such a term are added to the rows of
+//! the join (`separated_rows`), but no more than further joins make few rows of (`tree_sizes`). If there are
+//! more, it is noted that some were left out.
+ghost use Rattle.std.specs.Prelude.{◌≡◌};
 ghost use Rattle.sparql_eval.specs.Evaluated.{AreKnown};
+ghost use Rattle.sparql_eval.specs.Fitting.{AreStillEvaluated};
 
 use crate::equalities::Equality;
-use crate::pair_counts::{all_pairs, most_compatible};
+use crate::pair_counts::{all_pairs, may_share, most_compatible};
 use crate::separated_pairs::{PAIRS_AT_LEAST, Pairs, Side, may_fail};
 use dict_core::Dict;
 use expression_errors::Place;
 use row_core::Rows;
-use row_pieces::EvalFault;
 use sparql_algebra::Expr;
 use std::alloc::{AllocError, Global};
 
@@ -30,40 +34,39 @@ const ROWS_AT_MOST: usize = 1_000_000;
 pub(crate) struct Tested<'a> {
     pub(crate) condition: &'a Expr,
     pub(crate) place: Place<'a>,
-    /// The number of times that the rows of the join are joined to others before all equalities are tested.
-    pub(crate) joins: usize,
+    /// The number of rows that further joins make of one row, if there are further joins before all
+    /// equalities are tested.
+    pub(crate) further: Option<usize>,
     /// The places of the filters around this one, if they require some of the equalities. The first is
     /// that of the outermost filter.
     pub(crate) around: &'a [Place<'a>],
-    /// The number of quads of the dataset.
-    pub(crate) quads: usize,
 }
 
 impl<'a> Tested<'a> {
-    /// Returns the condition for rows that are joined to others before it is tested.
-    pub(crate) fn after_a_join(&self) -> Tested<'a> {
+    /// Returns the condition for rows that are joined to this number of others before it is tested.
+    pub(crate) fn after_a_join(&self, others: usize) -> Tested<'a> {
         Tested {
             condition: self.condition,
             place: self.place,
-            joins: self.joins.saturating_add(1),
+            further: Some(self.rows_of(others)),
             around: self.around,
-            quads: self.quads,
         }
     }
 
     /// Returns whether the condition is tested on all rows of the join: they are not joined to others
     /// before, and pass no other filter.
     fn is_last(&self) -> bool {
-        self.joins == 0 && self.around.is_empty()
+        self.further.is_none() && self.around.is_empty()
     }
 
-    /// Returns the number of rows that further joins make of some pairs, if each joins a row to all quads.
+    /// Returns the number of pairs of which further joins make few rows.
+    fn most_pairs(&self) -> usize {
+        ROWS_AT_MOST / self.rows_of(1).max(1)
+    }
+
+    /// Returns the number of rows that further joins make of some pairs.
     fn rows_of(&self, pairs: usize) -> usize {
-        let mut rows = pairs;
-        for _ in 0..self.joins {
-            rows = rows.saturating_mul(self.quads);
-        }
-        rows
+        pairs.saturating_mul(self.further.unwrap_or(1))
     }
 }
 
@@ -83,12 +86,12 @@ pub(crate) fn places_around<'a>(
     Ok(places)
 }
 
-/// Returns the number of times that the rows of a filter are joined to others before the equalities are
-/// tested that the filter around it requires.
-pub(crate) fn joins_around(pairs: &[Equality], outer: Option<&Tested<'_>>) -> usize {
+/// Returns the number of rows that further joins make of one row of a filter, if there are further joins
+/// before the equalities are tested that the filter around it requires.
+pub(crate) fn further_around(pairs: &[Equality], outer: Option<&Tested<'_>>) -> Option<usize> {
     match outer {
-        Some(outer) if !pairs.is_empty() => outer.joins,
-        _ => 0,
+        Some(outer) if !pairs.is_empty() => outer.further,
+        _ => None,
     }
 }
 
@@ -118,12 +121,13 @@ pub(crate) fn is_joined_whole(
     }
     let pairs = all_pairs(left, right);
     let are_few = pairs <= PAIRS_AT_LEAST;
-    if tested.joins > 0 {
+    if tested.further.is_some() {
         are_few
             && tested.rows_of(pairs) <= ROWS_AT_MOST
             && (!tested.around.is_empty() || may_fail_at_all(dict, left, right, keys))
     } else if tested.around.is_empty() {
         !are_few
+            && may_be_few_compatible(left, right)
             && may_fail_at_all(dict, left, right, keys)
             && are_few_compatible(alloc, left, right)
     } else {
@@ -137,6 +141,11 @@ fn may_fail_at_all(dict: &Dict, left: &Rows, right: &Rows, keys: &[Equality]) ->
     requires known_right { AreKnown dict.now right.now }
 {
     may_fail(dict, left, keys, Side::Left) || may_fail(dict, right, keys, Side::Right)
+}
+
+/// Returns false if the compatible pairs are more than the rows, and a look at the first rows shows it.
+fn may_be_few_compatible(left: &Rows, right: &Rows) -> bool {
+    may_share(left, right) || all_pairs(left, right) <= left.len().saturating_add(right.len())
 }
 
 /// Returns whether the compatible pairs are not more than the rows.
@@ -158,6 +167,7 @@ pub(crate) fn count_separated(
     keys: &[Equality],
     tested: &Tested<'_>,
 )
+    requires same_width { left.now.width ≡ right.now.width }
     requires known_left { AreKnown dict.now left.now }
     requires known_right { AreKnown dict.now right.now }
 {
@@ -175,40 +185,53 @@ pub(crate) fn count_separated(
     }
 }
 
-/// Notes that nobody looks at the pairs of rows with different keys, if there are any. `made` has the
-/// other pairs. Does nothing if the condition is tested on all rows of the join.
+/// Adds to the rows of a join by keys the pairs with different keys over which an equality may be an error, so
+/// that the condition is tested on them later. Then notes that nobody looks at the others, if there are any.
+/// Does nothing if the condition is tested on all rows of the join.
 #[tactic(auto, using(crate::proofs::ReadingLaws::rows_known_at))]
-pub(crate) fn note_left_out(
+pub(crate) fn add_separated(
     alloc: Global,
     dict: &Dict,
     left: &Rows,
     right: &Rows,
     keys: &[Equality],
     tested: &Tested<'_>,
-    made: &Result<Rows, EvalFault>,
+    made: &mut Rows,
 )
+    requires same_width { left.now.width ≡ right.now.width }
     requires known_left { AreKnown dict.now left.now }
     requires known_right { AreKnown dict.now right.now }
+    requires wide { made.old.width ≡ left.now.width }
+    ensures evaluated { AreStillEvaluated dict.now keys.now made.old made.new }
 {
-    let found = joined_pairs(made);
-    if tested.place.is_counted() && !tested.is_last() {
-        let pairs = Pairs {
-            alloc,
-            dict,
-            left,
-            right,
-            keys,
-            condition: tested.condition,
-            place: tested.place,
-        };
-        pairs.note(tested.around, found);
+    if !tested.place.is_counted() || tested.is_last() {
+        return;
     }
+    let pairs = Pairs {
+        alloc,
+        dict,
+        left,
+        right,
+        keys,
+        condition: tested.condition,
+        place: tested.place,
+    };
+    let fails = add_failing(&pairs, tested, made);
+    pairs.note(tested.around, made.len(), fails);
 }
 
-/// Returns the number of rows that a join made.
-fn joined_pairs(made: &Result<Rows, EvalFault>) -> usize {
-    match made {
-        Ok(rows) => rows.len(),
-        Err(_) => 0,
+/// Adds the pairs over which an equality may be an error, if there is room for them. Returns whether there may
+/// be more of them. Without memory for it, not all of them are added.
+fn add_failing(pairs: &Pairs<'_>, tested: &Tested<'_>, made: &mut Rows) -> bool
+    requires wide { made.old.width ≡ pairs.now.left.now.width }
+    ensures evaluated { AreStillEvaluated pairs.now.dict.now pairs.now.keys.now made.old made.new }
+{
+    if !pairs.may_fail() {
+        return false;
+    }
+    let most = made.len().saturating_add(tested.most_pairs());
+    match pairs.add_to(made, most) {
+        Ok(are_all) => !are_all,
+        Err(_) => true,
     }
 }

@@ -60,6 +60,7 @@ pub(crate) struct Pairs<'a> {
     pub(crate) keys: &'a [Equality],
     pub(crate) condition: &'a Expr,
     pub(crate) place: Place<'a>,
+    pub(crate) ghost same_width: { left.now.width ≡ right.now.width },
     pub(crate) ghost known_left: { AreKnownAt dict.now left.now.rows },
     pub(crate) ghost known_right: { AreKnownAt dict.now right.now.rows },
 }
@@ -89,11 +90,10 @@ impl<'a> Pairs<'a> {
         }
     }
 
-    /// Notes that nobody looks at the pairs with different keys, unless the `found` pairs are all. The
+    /// Notes that nobody looks at the other pairs with different keys, unless the `found` pairs are all. The
     /// filters around this one do not look at them either. The condition of the outermost filter can only
-    /// be an error over such a pair if an equality is.
-    pub(crate) fn note(&self, around: &[Place<'_>], found: usize) {
-        let fails = self.may_fail();
+    /// be an error over such a pair if an equality `fails`.
+    pub(crate) fn note(&self, around: &[Place<'_>], found: usize, fails: bool) {
         let is_partial = fails || !around.is_empty();
         if self.are_all(found, is_partial) {
             return;
@@ -123,7 +123,7 @@ impl<'a> Pairs<'a> {
     }
 
     /// Returns whether an equality may be an error over some term and terms with other keys.
-    fn may_fail(&self) -> bool {
+    pub(crate) fn may_fail(&self) -> bool {
         may_fail(self.dict, self.left, self.keys, Side::Left)
             || may_fail(self.dict, self.right, self.keys, Side::Right)
     }
@@ -150,11 +150,16 @@ impl<'a> Pairs<'a> {
 
     /// Counts the pairs over which an equality may be an error one by one, up to a limit.
     pub(crate) fn count_one_by_one(&self) -> Result<(), AllocError> {
-        let rows = self.left.len().saturating_add(self.right.len());
-        let most = rows.saturating_mul(PAIRS_A_ROW).max(PAIRS_AT_LEAST);
+        let most = self.most_looks();
         let seen = self.count_side(Side::Left, 0, most)?;
         self.count_side(Side::Right, seen, most)?;
         Ok(())
+    }
+
+    /// Returns the number of pairs that are looked at one by one.
+    pub(crate) fn most_looks(&self) -> usize {
+        let rows = self.left.len().saturating_add(self.right.len());
+        rows.saturating_mul(PAIRS_A_ROW).max(PAIRS_AT_LEAST)
     }
 
     /// Counts the pairs over which an equality may be an error by a term of this side. Those with such a
@@ -185,7 +190,7 @@ impl<'a> Pairs<'a> {
         }
     }
 
-    fn row_may_fail(&self, side: Side, row: usize) -> bool {
+    pub(crate) fn row_may_fail(&self, side: Side, row: usize) -> bool {
         match side {
             Side::Left => row_may_fail(self.dict, self.left, row, self.keys, side),
             Side::Right => row_may_fail(self.dict, self.right, row, self.keys, side),
