@@ -89,6 +89,16 @@ class Part(unittest.TestCase):
         self.assertEqual((0, terms(cut)), spq(["terms"], text))
         self.assertEqual((0, check(cut)), spq(["check"], text))
 
+    def test_repeats(self):
+        """A block sends the hash of a quad once, also if it has the quad in two forms, and it is not repeated."""
+        text = b'<a:> <a:> "x" .\n<a:> <a:> "y" .\n<a:> <a:> "\\u0078" .\n<a:> <a:> "x" .\n'
+        count, _, _, hashes = texts("split", "check", "1", text=text)
+        self.assertEqual(len(hashes), len(count) + 8)  # `count` has one number
+        once, again = texts("repeated", text=hashes)
+        self.assertEqual((number(once), len(again)), (2, len(count) - 8))
+        once, *again = texts("repeated", text=hashes + hashes)
+        self.assertEqual((number(once), again), (0, [hashes, hashes]))
+
     def test_numbers_of_lines(self):
         for text, count in [(b"", 0), (b"\n", 1), (b"# c\r\n\r# d", 3)]:
             for what in ["check", "terms", "subject", "graph"]:

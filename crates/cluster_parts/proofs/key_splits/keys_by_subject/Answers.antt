@@ -1,5 +1,4 @@
 use Rattle.std.proofs.Common.{List, ap, get_or, length, map, Some, ◌∙◌, subst, sym}
-use Rattle.std.specs.Option.{option_map}
 use Rattle.std.proofs.lemmas.List.{length-map}
 use Rattle.dict_core.specs.declared.num_quad.NumQuad.{NumQuad}
 use Rattle.dict_core.specs.NumQuad.{AreBelow}

@@ -1,4 +1,4 @@
-use Rattle.std.proofs.Common.{◌++◌, ap, ◌∙◌, length}
+use Rattle.std.proofs.Common.{◌++◌, ap, ◌∙◌}
 use Rattle.cluster_parts.specs.Keys.{key_of, reduced_key}
 use Rattle.cluster_parts.specs.Seal.{sealed}
 use Rattle.cluster_parts.proofs.PartSteps.{same_length, three_texts}

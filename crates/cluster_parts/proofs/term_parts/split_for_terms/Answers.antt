@@ -1,5 +1,4 @@
 use Rattle.std.proofs.Common.{◌∙◌, ap}
-use Rattle.dict_core.specs.Appearances.{first_appearances, terms_of}
 use Rattle.cluster_parts.specs.Known.{lines_parts}
 use Rattle.cluster_parts.specs.Output.{terms_parts}
 use Rattle.cluster_parts.proofs.TermSteps.{parts_are}
