@@ -12,7 +12,7 @@ use crate::reason_counts::{ReasonCount, ReasonCounts};
 use crate::well_formed::{first_lines, is_well_formed_line, well_formed_lines};
 use line_diagnosis::{Diagnosis, diagnose};
 use nquads_core::first_line;
-use nquads_scan::{is_plain_line, skip_plain_lines};
+use nquads_scan::skip_plain_lines;
 use std::alloc::{AllocError, Global};
 
 /// The number of bytes of well-formed lines in a row after which blocks of lines are tested.
@@ -104,10 +104,6 @@ impl<'d> PieceList<'d> {
             → IsListOf (before ++ line.now ∷ []) self.new) }
         ensures lines { OnOk result (self.new.lines ≡ self.old.lines + 1) }
     {
-        if is_plain_line(line) {
-            self.lines += 1;
-            return Ok(());
-        }
         if is_well_formed_line(alloc, line, form)? {
             self.lines += 1;
             return Ok(());
