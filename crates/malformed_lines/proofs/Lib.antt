@@ -4,4 +4,5 @@ pub mod TallyLaws
 pub mod ReasonLaws
 pub mod ListSteps
 pub mod AddingSteps
+pub mod WellFormedSteps
 mod FirstBytes

@@ -19,8 +19,9 @@ use Rattle.line_diagnosis.specs.Summary.{DifferInFound}
 use Rattle.malformed_lines.specs.Counts.{IsTally, NameLinesFrom, NamesLineFrom}
 use Rattle.malformed_lines.specs.Malformed.{AreMalformedFrom, AreSingles, IsFound, IsKept, IsListOf, most_shown}
 use Rattle.malformed_lines.proofs.CountLaws.{named_still}
-use Rattle.malformed_lines.proofs.MalformedLaws.{malformed_more, still_at, well_formed_more}
+use Rattle.malformed_lines.proofs.MalformedLaws.{malformed_more, still_at, well_formed_many, well_formed_more}
 use Rattle.malformed_lines.proofs.TallyLaws.{singles_more, singles_still}
+use Rattle.malformed_lines.proofs.WellFormedSteps.{few_lines}
 
 pub at_end : (a : List (List ℕ)) (line : List ℕ) (b : List (List ℕ)) → slice_get (a ++ line ∷ b) (length a) ≡ Some line
 at_end [] line b = refl
@@ -124,6 +125,25 @@ one_well_formed before line q old new h s e r t n =
       count = omega (arith, n, h.count, length-append before (line ∷ []));
     }
 
+-- the lines after these are well-formed
+pub many_well_formed : (before after : List (List ℕ)) (quads : List QuadParts) (old new : PieceList) → IsListOf before old → HaveStatements after quads
+    → new.shown ≡ old.shown → new.reasons.counts.items ≡ old.reasons.counts.items → new.total ≡ old.total → new.lines ≡ old.lines + length after → IsListOf (before ++ after) new
+many_well_formed before after quads old new h s e r t n =
+    let items = λ (v : Vec FoundLine Global). v.items in
+    let i : new.shown.items ≡ old.shown.items = ap items e in
+    record {
+      places = h.places;
+      malformed = well_formed_many 0 before h.places after quads h.malformed s;
+      shown = ap (map (λ (f : FoundLine). f.place)) i ∙ h.shown;
+      found = subst (λ (y : List FoundLine). All (IsFound (before ++ after)) y) (sym i) (still_found before after old.shown.items h.found);
+      named = subst (NameLinesFrom 0 (before ++ after)) (sym r) (named_still 0 before after old.reasons.counts.items h.named);
+      singles = h.singles;
+      one_each = singles_still 0 before after h.places h.singles h.one_each;
+      tally = subst (IsTally h.singles) (sym r) h.tally;
+      total = t ∙ h.total;
+      count = omega (arith, n, h.count, length-append before after);
+    }
+
 -- the lines before the rest are listed
 pub record IsListedUpTo (list : PieceList) (rest all : List ℕ) : Type 0 where
   pub before : List (List ℕ)
@@ -139,6 +159,16 @@ one_more old new rest after all line h e l step n = record {
   parts = h.parts ∙ ap (λ (y : List (List ℕ)). h.before ++ y) e ∙ sym (append_assoc h.before (line ∷ []) (lines after));
   listed = step h.before h.listed;
   short = omega (arith, h.short, n);
+}
+
+-- the lines of a block are listed
+pub block_more : (old new : PieceList) (rest block after all : List ℕ) → IsListedUpTo old rest all → lines rest ≡ lines block ++ lines after → length block + length after ≡ length rest
+    → ((before : List (List ℕ)) → IsListOf before old → IsListOf (before ++ lines block) new) → new.lines ≡ old.lines + length (lines block) → IsListedUpTo new after all
+block_more old new rest block after all h e l step n = record {
+  before = h.before ++ lines block;
+  parts = h.parts ∙ ap (λ (y : List (List ℕ)). h.before ++ y) e ∙ sym (append_assoc h.before (lines block) (lines after));
+  listed = step h.before h.listed;
+  short = omega (arith, h.short, n, l, few_lines block);
 }
 
 lines_nil : lines [] ≡ []

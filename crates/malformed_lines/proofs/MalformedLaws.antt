@@ -26,6 +26,15 @@ malformed_more n a x line place h m e = rw e (numbers_join n a (line ∷ []) x (
 pub well_formed_more : (n : ℕ) (a : List (List ℕ)) (x : List ℕ) (line : List ℕ) (q : Option QuadParts) → AreMalformedFrom n a x → HasStatement line q → AreMalformedFrom n (a ++ line ∷ []) x
 well_formed_more n a x line q h s = subst (λ (z : List ℕ). AreMalformedFrom n (a ++ line ∷ []) z) (append-nil x) (numbers_join n a (line ∷ []) x [] h (inr ((q, s), refl)))
 
+-- no line of valid ones is malformed
+pub none_malformed : (n : ℕ) (ls : List (List ℕ)) (quads : List QuadParts) → HaveStatements ls quads → AreMalformedFrom n ls []
+none_malformed n [] quads h = refl
+none_malformed n (line ∷ ls) quads h = inr ((h.0, h.2), none_malformed (n + 1) ls h.1 h.4)
+
+-- more lines that are well-formed
+pub well_formed_many : (n : ℕ) (a : List (List ℕ)) (x : List ℕ) (b : List (List ℕ)) (quads : List QuadParts) → AreMalformedFrom n a x → HaveStatements b quads → AreMalformedFrom n (a ++ b) x
+well_formed_many n a x b quads h s = subst (λ (z : List ℕ). AreMalformedFrom n (a ++ b) z) (append-nil x) (numbers_join n a b x [] h (none_malformed (n + length a) b quads s))
+
 -- the same lines counted from another number
 pub numbers_from : (m n : ℕ) (a : List (List ℕ)) (x : List ℕ) → AreMalformedFrom n a x → AreMalformedFrom (m + n) a (map (λ k. m + k) x)
 numbers_from m n [] x h = rw h refl
@@ -35,11 +44,6 @@ numbers_from m n (line ∷ a) x h =
       | inl p ↦ inl (p.0, (map (λ k. m + k) p.1.0, ap (map (λ k. m + k)) p.1.1, subst (λ (z : ℕ). AreMalformedFrom z a (map (λ k. m + k) p.1.0)) e (numbers_from m (n + 1) a p.1.0 p.1.2)))
       | inr w ↦ inr (w.0, subst (λ (z : ℕ). AreMalformedFrom z a (map (λ k. m + k) x)) e (numbers_from m (n + 1) a x w.1))
     ]
-
--- no line of valid ones is malformed
-pub none_malformed : (n : ℕ) (ls : List (List ℕ)) (quads : List QuadParts) → HaveStatements ls quads → AreMalformedFrom n ls []
-none_malformed n [] quads h = refl
-none_malformed n (line ∷ ls) quads h = inr ((h.0, h.2), none_malformed (n + 1) ls h.1 h.4)
 
 -- ---- the line at a place
 

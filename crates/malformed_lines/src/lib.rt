@@ -8,7 +8,7 @@
 //! A malformed line is one that holds no statement and is not blank and no comment (RDF 1.1 N-Quads, grammar). That
 //! twenty of them are kept, and the counts by reason, are choices of this project.
 //!
-//! Reading order: `reason_counts`, `piece_list` and `listing` (one piece), `document_list` and `adding` (all pieces), `placing`.
+//! Reading order: `reason_counts`, `piece_list`, `well_formed` and `listing` (one piece), `document_list` and `adding` (all pieces), `placing`.
 //!
 //! Tests: `lines` of the crate program_tests.
 //!
@@ -21,6 +21,7 @@ mod listing;
 mod piece_list;
 mod placing;
 mod reason_counts;
+mod well_formed;
 
 pub use document_list::{MalformedLine, MalformedLines};
 pub use listing::list_piece;

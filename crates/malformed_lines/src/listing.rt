@@ -1,5 +1,5 @@
 //! Listing the malformed lines of a piece.
-ghost use Rattle.std.specs.Prelude.{◌≡◌, ◌+◌, ◌<◌, ◌∷◌, ◌++◌, ◌^◌, [], List, ℕ, length, IfOk, OnOk};
+ghost use Rattle.std.specs.Prelude.{◌≡◌, ◌+◌, ◌≤◌, ◌<◌, ◌∷◌, ◌++◌, ◌^◌, [], List, ℕ, length, IfOk, OnOk};
 ghost use Rattle.rdf_core.specs.QuadParts.{QuadParts};
 ghost use Rattle.nquads_core.specs.Grammar.{IsMalformed};
 ghost use Rattle.line_diagnosis.specs.Explained.{IsExplained};
@@ -9,10 +9,17 @@ ghost use Rattle.malformed_lines.specs.Malformed.{IsKept, IsListOf};
 
 use crate::piece_list::{FoundLine, MOST_SHOWN, PieceList};
 use crate::reason_counts::{ReasonCount, ReasonCounts};
+use crate::well_formed::{first_lines, is_well_formed_line, well_formed_lines};
 use line_diagnosis::{Diagnosis, diagnose};
 use nquads_core::first_line;
-use nquads_scan::{is_plain_line, skip_plain_lines};
+use nquads_scan::skip_plain_lines;
 use std::alloc::{AllocError, Global};
+
+/// The number of bytes of well-formed lines in a row after which blocks of lines are tested.
+const LEAST_BLOCK: usize = 1 << 12;
+
+/// The number of bytes of a block of lines is at most this, apart from its last line.
+const MOST_BLOCK: usize = 1 << 16;
 
 /// Keeps a malformed line, unless twenty are kept.
 fn keep<'d>(
@@ -48,6 +55,16 @@ impl<'d> PieceList<'d> {
         }
     }
 
+    /// Adds this number of well-formed lines.
+    fn add_well_formed(&mut self, count: u64)
+        requires few { self.old.lines + count < 2 ^ 64 }
+        ensures listed { (before after : List (List ℕ)) (quads : List QuadParts) → IsListOf before self.old
+            → HaveStatements after quads → length after ≡ count → IsListOf (before ++ after) self.new }
+        ensures lines { self.new.lines ≡ self.old.lines + count }
+    {
+        self.lines += count;
+    }
+
     /// Adds a malformed line.
     fn add_malformed(
         &mut self,
@@ -74,14 +91,20 @@ impl<'d> PieceList<'d> {
         Ok(())
     }
 
-    /// Adds the next line.
-    fn add_line(&mut self, alloc: Global, line: &'d [u8], is_cut: bool) -> Result<(), AllocError>
+    /// Adds the next line. `form` is a buffer for the N-Quads form of a term.
+    fn add_line(
+        &mut self,
+        alloc: Global,
+        line: &'d [u8],
+        is_cut: bool,
+        form: &mut Vec<u8>,
+    ) -> Result<(), AllocError>
         requires few { self.old.lines < 2 ^ 63 }
         ensures listed { OnOk result ((before : List (List ℕ)) → IsListOf before self.old
             → IsListOf (before ++ line.now ∷ []) self.new) }
         ensures lines { OnOk result (self.new.lines ≡ self.old.lines + 1) }
     {
-        if is_plain_line(line) {
+        if is_well_formed_line(alloc, line, form)? {
             self.lines += 1;
             return Ok(());
         }
@@ -96,7 +119,10 @@ impl<'d> PieceList<'d> {
 }
 
 /// Lists the malformed lines of a piece of a document: the first twenty, how many there are, and how many for each
-/// reason (RDF 1.1 N-Quads, grammar). Only a line that is not plain is diagnosed.
+/// reason (RDF 1.1 N-Quads, grammar). Only a line that is not seen to be well-formed is diagnosed.
+///
+/// After some kilobytes of well-formed lines, whole blocks of lines are tested at once. A block is no longer than the
+/// well-formed lines before it, so a malformed line in it costs at most as much as these lines.
 ///
 /// # Errors
 /// `AllocError` if an allocation fails.
@@ -105,9 +131,27 @@ pub fn list_piece(alloc: Global, bytes: &[u8]) -> Result<PieceList<'_>, AllocErr
 {
     let (plain, mut rest) = skip_plain_lines(bytes);
     let mut list = PieceList::after(alloc, plain);
+    let mut form = Vec::new(alloc);
+    let mut run = LEAST_BLOCK;
     while !rest.is_empty() {
+        if run >= LEAST_BLOCK {
+            let (block, after) = first_lines(rest, run.min(MOST_BLOCK));
+            if let Some(count) = well_formed_lines(alloc, block, &mut form)? {
+                list.add_well_formed(count);
+                run = run.saturating_add(block.len());
+                rest = after;
+                continue;
+            }
+            run = 0;
+        }
         let (line, after) = first_line(rest);
-        list.add_line(alloc, line, line.len() == rest.len())?;
+        let before = list.total;
+        list.add_line(alloc, line, line.len() == rest.len(), &mut form)?;
+        run = if list.total == before {
+            run.saturating_add(line.len())
+        } else {
+            0
+        };
         rest = after;
     }
     Ok(list)

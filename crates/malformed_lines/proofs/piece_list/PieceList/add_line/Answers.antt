@@ -8,7 +8,7 @@ returns-in-None-clause-listed c = λ before h.
     let w : IsWellFormed c.args.line.now = rw c.in-None.is at c.in_ok-diagnosis.ensures.well_formed in
     one_well_formed before c.args.line.now w.meaning c.args.self.now _ h w.statement refl refl refl refl
 
-pub returns-then-is_plain_line-clause-listed : goal.returns-then-is_plain_line-clause-listed
-returns-then-is_plain_line-clause-listed c = λ before h.
-    let w = c.is_plain_line.ensures.well_formed c.if-is_plain_line.true in
+pub returns-then-branch-clause-listed : goal.returns-then-branch-clause-listed
+returns-then-branch-clause-listed c = λ before h.
+    let w = c.in_ok-is_well_formed_line.ensures.well_formed c.if-branch.true in
     one_well_formed before c.args.line.now w.0 c.args.self.now _ h w.1 refl refl refl refl
