@@ -856,11 +856,11 @@ def daily():
 
 
 def large():
-    """Returns cases with 160,000 pairs of an xsd:double and an integer. All are counted, but below another join only the tested ones."""
+    """Returns cases with 160,000 pairs of an xsd:double and an integer. All are counted, but below another join only the first 100,000."""
     document = '<http://e/c> <http://e/r> "z" .\n' + "".join(
         f'<http://e/a{i}> <http://e/p> "{i}"^^<{XSD}double> .\n<http://e/b{i}> <http://e/q> "{i}"^^<{XSD}integer> .\n' for i in range(400))
     pairs = "SELECT ?c { { ?a <http://e/p> ?x } { ?b <http://e/q> ?y } "
-    for more, rows in (("", "160000 rows"), ("{ ?c <http://e/r> ?z } ", "at least 400 rows")):
+    for more, rows in (("", "160000 rows"), ("{ ?c <http://e/r> ?z } ", "at least 100000 rows")):
         note = f"spq: note: FILTER at line 1, column {len(pairs + more) + 1}: {rows} are left out, since {reason('datatype', XSD + 'double', None)}"
         missing = [] if more else ["spq: note: ?c at line 1, column 8 is selected and occurs nowhere in the pattern"]
         yield document, f"{pairs}{more}FILTER(?x = ?y) }}", [*missing, note]
