@@ -20,7 +20,7 @@ impl<'c, 'i, 'e, R: Threads + Wait, G: Gate + Sync> Evaluator<'c, 'i, 'e, R, G> 
         tested: &Tested<'t>,
         dict: &Dict,
         active: Option<u64>,
-        tree: &Operator,
+        tree: &Box<Operator>,
     ) -> Tested<'t> {
         if tested.place.is_counted() {
             tested.after_a_join(self.most_rows(dict, active, tree, MOST_HEIGHT))
