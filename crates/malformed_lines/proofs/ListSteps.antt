@@ -21,7 +21,6 @@ use Rattle.malformed_lines.specs.Malformed.{AreMalformedFrom, AreSingles, IsFoun
 use Rattle.malformed_lines.proofs.CountLaws.{named_still}
 use Rattle.malformed_lines.proofs.MalformedLaws.{malformed_more, still_at, well_formed_many, well_formed_more}
 use Rattle.malformed_lines.proofs.TallyLaws.{singles_more, singles_still}
-use Rattle.malformed_lines.proofs.WellFormedSteps.{few_lines}
 
 pub at_end : (a : List (List ℕ)) (line : List ℕ) (b : List (List ℕ)) → slice_get (a ++ line ∷ b) (length a) ≡ Some line
 at_end [] line b = refl
@@ -161,14 +160,15 @@ one_more old new rest after all line h e l step n = record {
   short = omega (arith, h.short, n);
 }
 
--- the lines of a block are listed
-pub block_more : (old new : PieceList) (rest block after all : List ℕ) → IsListedUpTo old rest all → lines rest ≡ lines block ++ lines after → length block + length after ≡ length rest
-    → ((before : List (List ℕ)) → IsListOf before old → IsListOf (before ++ lines block) new) → new.lines ≡ old.lines + length (lines block) → IsListedUpTo new after all
-block_more old new rest block after all h e l step n = record {
-  before = h.before ++ lines block;
-  parts = h.parts ∙ ap (λ (y : List (List ℕ)). h.before ++ y) e ∙ sym (append_assoc h.before (lines block) (lines after));
-  listed = step h.before h.listed;
-  short = omega (arith, h.short, n, l, few_lines block);
+-- the well-formed lines before a rest of the rest are listed
+pub block_more : (old new : PieceList) (count : ℕ) (rest after all : List ℕ) (quads : List QuadParts) → IsListedUpTo old rest all → AreLinesBefore quads count after rest → count + length after ≤ length rest
+    → ((before more : List (List ℕ)) (quads : List QuadParts) → IsListOf before old → HaveStatements more quads → length more ≡ count → IsListOf (before ++ more) new)
+    → new.lines ≡ old.lines + count → IsListedUpTo new after all
+block_more old new count rest after all quads h b l step n = record {
+  before = h.before ++ b.before;
+  parts = h.parts ∙ ap (λ (y : List (List ℕ)). h.before ++ y) b.parts ∙ sym (append_assoc h.before b.before (lines after));
+  listed = step h.before b.before quads h.listed b.statements b.number;
+  short = omega (arith, h.short, n, l);
 }
 
 lines_nil : lines [] ≡ []

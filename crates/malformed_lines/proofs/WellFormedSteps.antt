@@ -3,7 +3,7 @@ use Rattle.std.proofs.Common.{◌≡◌, ◌≢◌, ℕ, suc, ◌+◌, ◌-◌, 
 use Rattle.std.specs.Prelude.{option_copied}
 use Rattle.std.specs.Borrow.{Bor}
 use Rattle.std.proofs.lemmas.Bool.{eqb-true}
-use Rattle.std.proofs.lemmas.List.{get_or-drop, take-append-drop, take_all, take_more}
+use Rattle.std.proofs.lemmas.List.{get_or-drop, get_or-take, length-take, take-append-drop, take_more}
 use Rattle.rdf_core.specs.declared.term.Term.{Term}
 use Rattle.rdf_core.specs.declared.term.Term.TheVariants.{Blank, Iri, Literal}
 use Rattle.rdf_core.specs.QuadFacts.{is_iri, is_node}
@@ -203,10 +203,11 @@ cut_text text front rest at l e f r =
     let ended : front ≡ take at text ++ 10 ∷ [] = f ∙ take_more text at 0 l ∙ ap (λ (b : ℕ). take at text ++ b ∷ []) e in
     ap lines joined ∙ lines_join front rest (inr (take at text, ended))
 
--- the same, if the line feed is the byte at this place of what follows the first bytes
-pub cut_after : (text front rest : List ℕ) (size at : ℕ) → size ≤ length text → size + at < length text → eqb (get_or (take (length text - size) (drop size text)) at 0) 10 ≡ true
+-- the same, if the line feed is the byte at this place of a part of the text
+pub cut_after : (text front rest : List ℕ) (size end at : ℕ) → size ≤ end → end ≤ length text → at < length (take (end - size) (drop size text)) → eqb (get_or (take (end - size) (drop size text)) at 0) 10 ≡ true
     → front ≡ take (size + at + 1) text → rest ≡ drop (size + at + 1) text → lines text ≡ lines front ++ lines rest
-cut_after text front rest size at within l e f r =
-    let hay : take (length text - size) (drop size text) ≡ drop size text = take_all (length text - size) (drop size text) (omega (arith, length-drop size text)) in
-    let here : get_or text (size + at) 0 ≡ 10 = sym (get_or-drop size text at 0) ∙ sym (ap (λ (y : List ℕ). get_or y at 0) hay) ∙ eqb-true _ _ e in
-    cut_text text front rest (size + at) l here f r
+cut_after text front rest size end at rising within l e f r =
+    let part : at < end - size = omega (arith, l, rising, within, length-take (end - size) (drop size text), length-drop size text) in
+    let same : get_or (take (end - size) (drop size text)) at 0 ≡ get_or (drop size text) at 0 = get_or-take (end - size) (drop size text) at 0 part in
+    let here : get_or text (size + at) 0 ≡ 10 = sym (get_or-drop size text at 0) ∙ sym same ∙ eqb-true _ _ e in
+    cut_text text front rest (size + at) (omega (arith, part, rising, within)) here f r

@@ -9,7 +9,7 @@ ghost use Rattle.malformed_lines.specs.Malformed.{IsKept, IsListOf};
 
 use crate::piece_list::{FoundLine, MOST_SHOWN, PieceList};
 use crate::reason_counts::{ReasonCount, ReasonCounts};
-use crate::well_formed::{first_lines, is_well_formed_line, well_formed_lines};
+use crate::well_formed::{is_well_formed_line, skip_well_formed_lines};
 use line_diagnosis::{Diagnosis, diagnose};
 use nquads_core::first_line;
 use nquads_scan::skip_plain_lines;
@@ -18,7 +18,7 @@ use std::alloc::{AllocError, Global};
 /// The number of bytes of well-formed lines in a row after which blocks of lines are tested.
 const LEAST_BLOCK: usize = 1 << 12;
 
-/// The number of bytes of a block of lines is at most this, apart from its last line.
+/// The largest number of bytes that a block has at least.
 const MOST_BLOCK: usize = 1 << 16;
 
 /// Keeps a malformed line, unless twenty are kept.
@@ -121,8 +121,8 @@ impl<'d> PieceList<'d> {
 /// Lists the malformed lines of a piece of a document: the first twenty, how many there are, and how many for each
 /// reason (RDF 1.1 N-Quads, grammar). Only a line that is not seen to be well-formed is diagnosed.
 ///
-/// After some kilobytes of well-formed lines, whole blocks of lines are tested at once. A block is no longer than the
-/// well-formed lines before it, so a malformed line in it costs at most as much as these lines.
+/// After some kilobytes of well-formed lines, blocks of lines are tested at once. A block is at most two times as long as
+/// the well-formed lines before it. So a malformed line in it costs at most about as much as these lines.
 ///
 /// # Errors
 /// `AllocError` if an allocation fails.
@@ -135,10 +135,10 @@ pub fn list_piece(alloc: Global, bytes: &[u8]) -> Result<PieceList<'_>, AllocErr
     let mut run = LEAST_BLOCK;
     while !rest.is_empty() {
         if run >= LEAST_BLOCK {
-            let (block, after) = first_lines(rest, run.min(MOST_BLOCK));
-            if let Some(count) = well_formed_lines(alloc, block, &mut form)? {
+            let size = run.min(MOST_BLOCK);
+            if let Some((count, after)) = skip_well_formed_lines(alloc, rest, size, &mut form)? {
                 list.add_well_formed(count);
-                run = run.saturating_add(block.len());
+                run = run.saturating_add(size);
                 rest = after;
                 continue;
             }

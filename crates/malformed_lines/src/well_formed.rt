@@ -1,7 +1,7 @@
 //! Lines that are seen to be well-formed by their slices, as loading sees it.
 //!
 //! Of another line `false` says nothing, and `diagnose` of line_diagnosis decides.
-ghost use Rattle.std.specs.Prelude.{◌≡◌, ◌+◌, ◌-◌, ◌<◌, ◌++◌, true, List, Option, get_or, length, IfOk, IfSome};
+ghost use Rattle.std.specs.Prelude.{◌≡◌, ◌+◌, ◌-◌, ◌≤◌, ◌<◌, ◌^◌, ◌++◌, true, List, Option, get_or, length, IfOk, IfSome};
 ghost use Rattle.rdf_core.specs.declared.term.Term.{Term};
 ghost use Rattle.rdf_core.specs.QuadFacts.{is_iri, is_node};
 ghost use Rattle.rdf_core.specs.QuadParts.{QuadParts};
@@ -11,6 +11,7 @@ ghost use Rattle.nquads_core.specs.Lines.{lines};
 ghost use Rattle.nquads_core.specs.Pieces.{HaveStatements};
 ghost use Rattle.nquads_core.specs.Slices.{Denotes};
 ghost use Rattle.nquads_core.specs.Splitting.{DenoteAll, DenotesQuad};
+ghost use Rattle.nquads_scan.specs.PlainLines.{AreLinesBefore};
 
 use memchr::memchr;
 use nquads_core::RawStatement;
@@ -110,28 +111,11 @@ fn denote_quads(
     Ok(true)
 }
 
-/// Splits off the lines at the front of a text, up to the first line feed after `size` bytes. Returns them and what
-/// follows them.
-pub(crate) fn first_lines(text: &[u8], size: usize) -> (&[u8], &[u8])
-    requires some { 0 < length text.now }
-    ensures lines { lines text.now ≡ lines result.0.now ++ lines result.1.now }
-    ensures lengths { length result.0.now + length result.1.now ≡ length text.now }
-    ensures some { 0 < length result.0.now }
-{
-    if text.len() <= size {
-        return (text, &[]);
-    }
-    match memchr(b'\n', &text[size..]) {
-        Some(end) => text.split_at(size + end + 1),
-        None => (text, &[]),
-    }
-}
-
 /// Returns the number of lines of a text, if each of them is seen to be well-formed: it holds a statement, or it is blank
 /// or a comment (RDF 1.1 N-Quads, grammar). `form` is a buffer for the N-Quads form of a term.
 ///
 /// None says nothing.
-pub(crate) fn well_formed_lines(
+fn well_formed_lines(
     alloc: Global,
     text: &[u8],
     form: &mut Vec<u8>,
@@ -147,6 +131,53 @@ pub(crate) fn well_formed_lines(
         return Ok(None);
     }
     Ok(Some(split.lines))
+}
+
+/// Splits off the lines at the front of a text, up to the first line feed after `size` bytes. Returns them and what
+/// follows them, or None if no line feed is near.
+fn first_lines(text: &[u8], size: usize) -> Option<(&[u8], &[u8])>
+    requires some { 0 < length text.now }
+    requires small { size < 2 ^ 62 }
+    ensures lines { IfSome result (λ x. lines text.now ≡ lines x.0.now ++ lines x.1.now) }
+    ensures lengths { IfSome result (λ x. length x.0.now + length x.1.now ≡ length text.now) }
+    ensures some { IfSome result (λ x. 0 < length x.0.now) }
+{
+    if text.len() <= size {
+        return Some((text, &[]));
+    }
+    let end = text.len().min(2 * size);
+    match memchr(b'\n', &text[size..end]) {
+        Some(at) => Some(text.split_at(size + at + 1)),
+        None => None,
+    }
+}
+
+/// Counts lines at the front of a text that are seen to be well-formed, at least `size` bytes or all, and returns what
+/// follows them. Returns None if one of them is not. `form` is a buffer for the N-Quads form of a term.
+///
+/// None says nothing. The lines are at most two times `size` bytes.
+pub(crate) fn skip_well_formed_lines<'d>(
+    alloc: Global,
+    text: &'d [u8],
+    size: usize,
+    form: &mut Vec<u8>,
+) -> Result<Option<(u64, &'d [u8])>, AllocError>
+    requires some { 0 < length text.now }
+    requires small { size < 2 ^ 62 }
+    ensures lines { IfOk result (λ found. IfSome found
+        (λ x. (quads : List QuadParts) × AreLinesBefore quads x.0 x.1.now text.now)) }
+    ensures fewer { IfOk result (λ found. IfSome found
+        (λ x. x.0 + length x.1.now ≤ length text.now)) }
+    ensures shorter { IfOk result (λ found. IfSome found
+        (λ x. length x.1.now < length text.now)) }
+{
+    let Some((block, after)) = first_lines(text, size) else {
+        return Ok(None);
+    };
+    match well_formed_lines(alloc, block, form)? {
+        Some(count) => Ok(Some((count, after))),
+        None => Ok(None),
+    }
 }
 
 /// Returns the last byte of a text, or 0 if it is empty.

@@ -1,9 +1,7 @@
-use Rattle.std.proofs.Common.{◌≡◌, ◌+◌, ℕ, length, sym, ap, ◌∙◌, arith}
+use Rattle.std.proofs.Common.{sym}
 use Rattle.std.proofs.lemmas.List.{nil_from_length}
 use Rattle.std.proofs.lemmas.Bool.{eqb-true}
-use Rattle.nquads_core.specs.Lines.{lines}
 use Rattle.malformed_lines.proofs.ListSteps.{all_listed, block_more, one_more, plain_listed}
-use Rattle.malformed_lines.proofs.WellFormedSteps.{few_lines}
 use Rattle.malformed_lines.proofs.listing.list_piece.Goals as goal
 
 pub returns : goal.returns
@@ -16,20 +14,11 @@ loop-rest-init c =
     let front = c.skip_plain_lines-plain.ensures.lines in
     plain_listed c.after-list.result c.skip_plain_lines-plain.result.0 c.skip_plain_lines-plain.result.1.now c.args.bytes.now front.0 front.1 c.after-list.ensures.listed c.after-list.ensures.lines c.skip_plain_lines-plain.ensures.shorter
 
-pub add_well_formed-requires : goal.add_well_formed-requires
-add_well_formed-requires c =
-    let block = c.first_lines.result.0.now in
-    let count : c.in-Some.count ≡ length (lines block) = rw c.in-Some.is at c.in_ok-count.ensures.count in
-    record { few = omega (arith, count, few_lines block, c.first_lines.ensures.lengths, c.loop-rest.invariant.short) }
-
 pub loop-rest-preserved-in-Some : goal.loop-rest-preserved-in-Some
 loop-rest-preserved-in-Some c =
-    let block = c.first_lines.result.0.now in
-    let count : c.in-Some.count ≡ length (lines block) = rw c.in-Some.is at c.in_ok-count.ensures.count in
-    let has = rw c.in-Some.is at c.in_ok-count.ensures.statements in
-    block_more c.loop-rest.list c.add_well_formed.new.self c.loop-rest.rest.now block c.first_lines.result.1.now c.args.bytes.now c.loop-rest.invariant
-    c.first_lines.ensures.lines c.first_lines.ensures.lengths (λ before h. c.add_well_formed.ensures.listed before (lines block) has.0 h has.1 (sym count))
-    (c.add_well_formed.ensures.lines ∙ ap (λ (k : ℕ). c.loop-rest.list.lines + k) count)
+    let has = rw c.in-Some.is at c.in_ok-count.ensures.lines in
+    block_more c.loop-rest.list c.add_well_formed.new.self c.in-Some.count c.loop-rest.rest.now c.in-Some.after.now c.args.bytes.now has.0 c.loop-rest.invariant has.1
+    (rw c.in-Some.is at c.in_ok-count.ensures.fewer) c.add_well_formed.ensures.listed c.add_well_formed.ensures.lines
 
 pub loop-rest-preserved-then-list-before : goal.loop-rest-preserved-then-list-before
 loop-rest-preserved-then-list-before c =

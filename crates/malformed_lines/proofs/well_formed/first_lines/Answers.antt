@@ -7,7 +7,4 @@ returns-then-text-size-clause-lines c = whole_text c.args.text.now
 
 pub returns-in-Some-clause-lines : goal.returns-in-Some-clause-lines
 returns-in-Some-clause-lines c =
-    cut_after c.args.text.now c.split_at.result.0.now c.split_at.result.1.now c.args.size c.in-Some.end (omega arith) (omega arith) c.in-Some.ensures.1 c.split_at.ensures.front c.split_at.ensures.back
-
-pub returns-in-None-clause-lines : goal.returns-in-None-clause-lines
-returns-in-None-clause-lines c = whole_text c.args.text.now
+    cut_after c.args.text.now c.split_at.result.0.now c.split_at.result.1.now c.args.size c.min-end.result c.in-Some.at (omega arith) (omega arith) c.in-Some.ensures.0.high c.in-Some.ensures.1 c.split_at.ensures.front c.split_at.ensures.back
