@@ -3,7 +3,7 @@
 use crate::cases::{Case, Reader, all_hold};
 use crate::lines::append_term;
 use nquads_core::{RawStatement, read_term};
-use nquads_scan::{is_plain_line, skip_plain_lines, split_piece};
+use nquads_scan::{skip_plain_lines, split_piece};
 use std::alloc::{AllocError, AllocGlobal, Global};
 
 /// Appends the slices of each statement in order, with `-` for the default graph.
@@ -124,48 +124,40 @@ fn other_texts_are_not_split(rt: HostRuntime) {
     );
 }
 
-/// Appends `plain`, or `not plain`, and then how many lines at the front of the text are plain, and what follows them.
+/// Appends how many lines at the front of the text are plain, and how many bytes follow them.
 pub(crate) fn plain_lines(out: &mut String, text: &[u8]) -> Result<(), AllocError> {
     let (count, rest) = skip_plain_lines(text);
-    let seen = if is_plain_line(text) {
-        "plain"
-    } else {
-        "not plain"
-    };
-    write!(out, "{seen}; {count} lines, {} bytes left", rest.len())
+    write!(out, "{count} lines, {} bytes left", rest.len())
 }
 
-/// Texts, whether each is a plain line, and its plain lines.
+/// Texts, and the plain lines at their fronts.
 const PLAIN: &[Case] = &[
-    ("", "plain; 0 lines, 0 bytes left"),
-    (" \t# c", "plain; 1 lines, 0 bytes left"),
-    ("_:s<a:p>\"x y\"@en-gb _:g.", "plain; 1 lines, 0 bytes left"),
+    ("", "0 lines, 0 bytes left"),
+    (" \t# c", "1 lines, 0 bytes left"),
+    ("_:s<a:p>\"x y\"@en-gb _:g.", "1 lines, 0 bytes left"),
     (
         "<a:\u{e9}> <a:p> \"\u{6771}\"^^<a:d> <a:g> . # c",
-        "plain; 1 lines, 0 bytes left",
+        "1 lines, 0 bytes left",
     ),
     // more than one line
-    ("\n", "not plain; 1 lines, 0 bytes left"),
-    ("_:s <a:p> _:o .\r", "not plain; 1 lines, 0 bytes left"),
+    ("\n", "1 lines, 0 bytes left"),
+    ("_:s <a:p> _:o .\r", "1 lines, 0 bytes left"),
     (
         "_:s <a:p> _:o .\n\r\n# c\n_:s <a:p> _:o\n",
-        "not plain; 3 lines, 14 bytes left",
+        "3 lines, 14 bytes left",
     ),
     // well-formed lines that are not seen to be so
-    ("_:s <a:p> \"\\n\" .", "not plain; 0 lines, 16 bytes left"),
-    ("_:s <a:p> \"x\"@EN .", "not plain; 0 lines, 18 bytes left"),
-    ("_:s <a:p> \"x\" @en .", "not plain; 0 lines, 19 bytes left"),
+    ("_:s <a:p> \"\\n\" .", "0 lines, 16 bytes left"),
+    ("_:s <a:p> \"x\"@EN .", "0 lines, 18 bytes left"),
+    ("_:s <a:p> \"x\" @en .", "0 lines, 19 bytes left"),
     // malformed lines
-    ("x", "not plain; 0 lines, 1 bytes left"),
-    ("<a:s> <a:p> <o> .", "not plain; 0 lines, 17 bytes left"),
-    ("<a:s> _:p <a:o> .", "not plain; 0 lines, 17 bytes left"),
-    (
-        "<a:s> <a:p> <a:o> \"g\" .",
-        "not plain; 0 lines, 23 bytes left",
-    ),
-    ("<a:s> <a:p> <a: o> .", "not plain; 0 lines, 20 bytes left"),
-    ("_:s <a:p> \"x\"@1 .", "not plain; 0 lines, 17 bytes left"),
-    ("_:s <a:p> \"x\n\" .", "not plain; 0 lines, 16 bytes left"),
+    ("x", "0 lines, 1 bytes left"),
+    ("<a:s> <a:p> <o> .", "0 lines, 17 bytes left"),
+    ("<a:s> _:p <a:o> .", "0 lines, 17 bytes left"),
+    ("<a:s> <a:p> <a:o> \"g\" .", "0 lines, 23 bytes left"),
+    ("<a:s> <a:p> <a: o> .", "0 lines, 20 bytes left"),
+    ("_:s <a:p> \"x\"@1 .", "0 lines, 17 bytes left"),
+    ("_:s <a:p> \"x\n\" .", "0 lines, 16 bytes left"),
 ];
 
 #[test]

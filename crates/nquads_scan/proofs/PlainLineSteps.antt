@@ -1,20 +1,16 @@
 -- Lines whose slices are their own canonical texts.
-use Rattle.std.proofs.Common.{◌≡◌, ℕ, zero, suc, ◌+◌, ◌≤◌, ◌<◌, true, false, eqb, List, [], ◌∷◌, ◌++◌, length, Option, Some, None, refl, sym, ap, subst, ◌∙◌, arith, inl}
-use Rattle.std.specs.Prelude.{is_some, option_copied, option_to_list}
+use Rattle.std.proofs.Common.{◌≡◌, ℕ, ◌+◌, ◌≤◌, ◌<◌, true, List, [], ◌++◌, length, Option, Some, None, refl, sym, ap, subst, arith}
+use Rattle.std.specs.Prelude.{option_copied, option_to_list}
 use Rattle.std.specs.Borrow.{Bor}
 use Rattle.std.specs.Str.{IsUtf8}
-use Rattle.std.proofs.lemmas.Str.{chars-nil, IsUtf8-nil}
 use Rattle.rdf_core.specs.declared.term.Term.{Term}
 use Rattle.rdf_core.specs.declared.term.Term.TheVariants.{Blank, Iri, Literal}
 use Rattle.rdf_core.specs.QuadFacts.{is_graph_name, is_iri, is_node}
 use Rattle.rdf_core.specs.QuadParts.{QuadParts}
 use Rattle.nquads_core.specs.declared.slices.RawStatement.{RawStatement}
-use Rattle.nquads_core.specs.Grammar.{HasStatement}
 use Rattle.nquads_core.specs.Lines.{lines}
 use Rattle.nquads_core.specs.Slices.{Denotes}
 use Rattle.nquads_core.specs.Splitting.{DenotesGraph, DenotesQuad}
-use Rattle.memchr.specs.Find.{is_byte2, IsFirstByte}
-use Rattle.nquads_core.proofs.PieceLaws.{one_line}
 use Rattle.nquads_scan.specs.Canonical.{HasForm}
 use Rattle.nquads_scan.specs.Layout.{IsLineThen}
 use Rattle.nquads_scan.specs.PlainLines.{AreLinesBefore, FirstLine}
@@ -48,39 +44,6 @@ plain_blank text rest u l t = (None, blank_line text rest u l t)
 
 pub plain_statement : (text rest : List ℕ) (raw : RawStatement) → IsUtf8 text → 0 < length text → IsLineThen text (Some raw) rest → ((q : QuadParts) × DenotesQuad raw q) → (q : Option QuadParts) × FirstLine text rest q
 plain_statement text rest raw u l t d = (Some d.0, statement_line text raw rest d.0 u l t d.1)
-
-pub empty_line : (line : List ℕ) → line ≡ [] → (q : Option QuadParts) × HasStatement line q
-empty_line line e =
-    subst (λ (y : List ℕ). (q : Option QuadParts) × HasStatement y q) (sym e) (
-      None,
-      record {
-        utf8 = IsUtf8-nil;
-        one_line = λ i l. absurd (omega (arith, l));
-        terminals = [];
-        splits = record { blanks = []; comment = []; parts = chars-nil; all_blank = refl; hash = inl refl };
-        derives = refl;
-      },
-    )
-
-cons_front : (l line : List ℕ) (ls more : List (List ℕ)) → l ∷ ls ≡ line ∷ more → line ≡ l
-cons_front l line ls more e = cc
-
-some_length : (n : ℕ) → false ≡ eqb n 0 → 0 < n
-some_length zero e = absurd cc
-some_length (suc n) e = omega arith
-
--- a text without a line end is one line
-single : (line : List ℕ) (found : Option ℕ) → 0 < length line → false ≡ is_some found → IsFirstByte (is_byte2 10 13) line found → lines line ≡ line ∷ []
-single line None p e h = one_line line p (λ k l. h k (omega arith) l)
-single line (Some end) p e h = absurd cc
-
-whole_line : (text rest : List ℕ) → lines text ≡ text ∷ [] → ((q : Option QuadParts) × FirstLine text rest q) → (q : Option QuadParts) × HasStatement text q
-whole_line text rest e f = (f.0, subst (λ (y : List ℕ). HasStatement y f.0) (cons_front text f.1.line [] (lines rest) (sym e ∙ f.1.parts)) f.1.statement)
-
-pub plain_line : (line text rest : List ℕ) (found : Option ℕ) → false ≡ eqb (length line) 0 → false ≡ is_some found → IsFirstByte (is_byte2 10 13) line found → text ≡ line
-    → ((q : Option QuadParts) × FirstLine text rest q) → (q : Option QuadParts) × HasStatement line q
-plain_line line text rest found some none h e f =
-    whole_line line rest (single line found (some_length (length line) some) none h) (subst (λ (y : List ℕ). (q : Option QuadParts) × FirstLine y rest q) e f)
 
 -- ---- lines one after the other
 

@@ -25,4 +25,4 @@ mod statement;
 
 pub use canonical_text::{Form, canonical};
 pub use pieces::{SplitPiece, split_piece};
-pub use plain_lines::{is_plain_line, skip_plain_lines};
+pub use plain_lines::skip_plain_lines;

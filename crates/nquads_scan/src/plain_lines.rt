@@ -1,13 +1,12 @@
 //! Lines whose terms are written without an escape and as in the canonical texts. They are found without an allocation.
 //!
-//! Only such lines are found. Of another line `false` says nothing, and `read_line` of nquads_core decides.
+//! Only such lines are found. Of another line nothing is said, and `read_line` of nquads_core decides.
 
 ghost use Rattle.std.specs.Prelude.{◌≡◌, ◌+◌, ◌≤◌, ◌<◌, true, List, Option, length, option_copied, IfSome};
 ghost use Rattle.std.specs.Str.{IsUtf8};
 ghost use Rattle.rdf_core.specs.declared.term.Term.{Term};
 ghost use Rattle.rdf_core.specs.QuadFacts.{is_graph_name, is_iri, is_node};
 ghost use Rattle.rdf_core.specs.QuadParts.{QuadParts};
-ghost use Rattle.nquads_core.specs.Grammar.{HasStatement};
 ghost use Rattle.nquads_core.specs.Slices.{Denotes};
 ghost use Rattle.nquads_core.specs.Splitting.{DenotesGraph, DenotesQuad};
 ghost use Rattle.nquads_scan.specs.PlainLines.{AreLinesBefore, FirstLine};
@@ -15,7 +14,6 @@ ghost use Rattle.nquads_scan.specs.PlainLines.{AreLinesBefore, FirstLine};
 use crate::checks::is_label;
 use crate::plain::{after_label_sign, between_brackets, is_plain_form, is_plain_iri};
 use crate::statement::cut_line;
-use memchr::memchr2;
 use nquads_core::RawStatement;
 
 /// Returns whether a slice is an IRI with a scheme, written without an escape.
@@ -89,33 +87,11 @@ fn after_plain_line(text: &str) -> Option<&str>
     Some(rest)
 }
 
-/// Returns whether a line, without its line end, is seen to be well-formed: it holds a statement, or it is blank or a
-/// comment (RDF 1.1 N-Quads, grammar).
+/// Counts the lines at the front of a text that are seen to be well-formed (RDF 1.1 N-Quads, grammar), and returns what follows
+/// them. Such a line holds a statement whose slices are their own canonical texts, or it is blank or a comment.
 ///
-/// `false` says nothing: a line with an escape, a language tag in capitals or the datatype `xsd:string` is not seen to be
-/// well-formed here, and may be. Allocates nothing.
-pub fn is_plain_line(line: &[u8]) -> bool
-    ensures well_formed { result ≡ true → (q : Option QuadParts) × HasStatement line.now q }
-{
-    if line.is_empty() {
-        return true;
-    }
-    if memchr2(b'\n', b'\r', line).is_some() {
-        return false;
-    }
-    let Ok(text) = simdutf8::basic::from_utf8(line) else {
-        return false;
-    };
-    let Some(rest) = after_plain_line(text) else {
-        return false;
-    };
-    rest.is_empty()
-}
-
-/// Counts the lines at the front of a text that are seen to be well-formed, as `is_plain_line` sees it, and returns what
-/// follows them.
-///
-/// If the text is not UTF-8, returns 0 and the text. Allocates nothing.
+/// Of the next line this says nothing: one with an escape, a language tag in capitals or the datatype `xsd:string` is not seen to
+/// be well-formed here, and may be. If the text is not UTF-8, returns 0 and the text. Allocates nothing.
 pub fn skip_plain_lines(text: &[u8]) -> (u64, &[u8])
     ensures lines { (quads : List QuadParts) × AreLinesBefore quads result.0 result.1.now text.now }
     ensures shorter { result.0 + length result.1.now ≤ length text.now }

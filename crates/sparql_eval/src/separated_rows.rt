@@ -27,6 +27,14 @@ struct Buffers {
     merged: Vec<Option<u64>>,
 }
 
+/// How many pairs are added.
+struct Limits {
+    /// The most rows that there may be.
+    rows: usize,
+    /// How many pairs may still be looked at.
+    looks: usize,
+}
+
 impl<'a> Pairs<'a> {
     /// Adds to the rows of the join the pairs with different keys over which an equality may be an error.
     /// There are at most `most` rows then. Returns whether all such pairs were added.
@@ -37,14 +45,17 @@ impl<'a> Pairs<'a> {
         requires wide { made.old.width ≡ self.now.left.now.width }
         ensures evaluated { AreStillEvaluated self.now.dict.now self.now.keys.now made.old made.new }
     {
-        let mut looks = self.most_looks();
+        let mut limits = Limits {
+            rows: most,
+            looks: self.most_looks(),
+        };
         let mut buffers = Buffers {
             row: Vec::new(self.alloc),
             other: Vec::new(self.alloc),
             merged: Vec::new(self.alloc),
         };
-        if self.add_side(Side::Left, most, &mut looks, &mut buffers, made)? {
-            self.add_side(Side::Right, most, &mut looks, &mut buffers, made)
+        if self.add_side(Side::Left, &mut limits, &mut buffers, made)? {
+            self.add_side(Side::Right, &mut limits, &mut buffers, made)
         } else {
             Ok(false)
         }
@@ -57,8 +68,7 @@ impl<'a> Pairs<'a> {
     fn add_side(
         &self,
         side: Side,
-        most: usize,
-        looks: &mut usize,
+        limits: &mut Limits,
         buffers: &mut Buffers,
         made: &mut Rows,
     ) -> Result<bool, AllocError>
@@ -69,7 +79,7 @@ impl<'a> Pairs<'a> {
         let failing = self.failing_rows(side)?;
         let failing = failing.as_slice();
         for step in 0..self.len(side.other()) {
-            if !self.add_step(side, failing, step, most, looks, buffers, made)? {
+            if !self.add_step(side, failing, step, limits, buffers, made)? {
                 return Ok(false);
             }
         }
@@ -94,8 +104,7 @@ impl<'a> Pairs<'a> {
         side: Side,
         failing: &[usize],
         step: usize,
-        most: usize,
-        looks: &mut usize,
+        limits: &mut Limits,
         buffers: &mut Buffers,
         made: &mut Rows,
     ) -> Result<bool, AllocError>
@@ -105,10 +114,10 @@ impl<'a> Pairs<'a> {
     {
         let others = self.len(side.other()).max(1);
         for row in failing {
-            if *looks == 0 || made.len() >= most {
+            if limits.looks == 0 || made.len() >= limits.rows {
                 return Ok(false);
             }
-            *looks -= 1;
+            limits.looks -= 1;
             let other = row.wrapping_add(step) % others;
             self.add_at(side, *row, other, buffers, made)?;
         }
