@@ -15,10 +15,7 @@ pub(crate) fn pool_failed<L: LoadListener>(listener: &L, failed: PoolFault) -> L
     ensures cause { IsLoadFailed L.fails result }
 {
     listener.failed(failed);
-    match failed {
-        PoolFault::WorkerRefused => LoadFault::WorkerRefused,
-        PoolFault::Memory => LoadFault::Memory,
-    }
+    LoadFault::from(failed)
 }
 
 /// Tells the listener of the fault of a read, if an allocation failed.
