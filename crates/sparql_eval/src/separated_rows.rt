@@ -28,6 +28,7 @@ struct Buffers {
 }
 
 /// How many pairs are added.
+#[derive(Drop)]
 struct Limits {
     /// The most rows that there may be.
     rows: usize,
