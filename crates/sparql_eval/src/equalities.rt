@@ -13,8 +13,11 @@ use rdf_core::Term;
 use sparql_algebra::{Comparison, Expr, Function};
 use std::alloc::{AllocError, Global};
 
-/// The number of equalities that are used. The limit keeps the rows short.
-pub(crate) const MOST_EQUALITIES: usize = 4;
+/// The number of equalities that a condition is searched for.
+const MOST_EQUALITIES: usize = 64;
+
+/// The number of equalities by which rows are paired. The limit keeps the keys short.
+pub(crate) const MOST_KEYS: usize = 4;
 
 /// An operand of an equality: a variable, or STR of a variable.
 #[derive(Clone, Copy)]
@@ -44,20 +47,28 @@ pub(crate) struct Equality {
 }
 
 /// Returns the equalities that hold in each row for which the condition is true. They are `=` and
-/// sameTerm of variables, and of STR of variables, in a chain of `&&`. The chain is read in a loop,
-/// so a long one needs no more stack than a short one.
+/// sameTerm of variables, and of STR of variables, joined by `&&`.
 pub(crate) fn equalities(alloc: Global, condition: &Expr) -> Result<Vec<Equality>, AllocError>
     ensures required { IfOk result (λ found.
         AreRequired (expression_of condition.now) found.items) }
 {
     let mut found = Vec::new(alloc);
+    add_equalities(condition, &mut found)?;
+    Ok(found)
+}
+
+/// Adds the equalities that a condition requires. The left operands of `&&` are read in a loop, so a
+/// long chain needs no more stack than a short one.
+fn add_equalities(condition: &Expr, found: &mut Vec<Equality>) -> Result<(), AllocError>
+    ensures required { OnOk result ((e : Expression) → Implies e (expression_of condition.now)
+        → AreRequired e found.old.items → AreRequired e found.new.items) }
+{
     let mut rest = condition;
     'operands: while let Expr::And { left, right } = rest {
-        add_equality(right, &mut found)?;
+        add_equalities(right, found)?;
         rest = left;
     }
-    add_equality(rest, &mut found)?;
-    Ok(found)
+    add_equality(rest, found)
 }
 
 /// Returns the equalities of the condition, followed by the given ones.

@@ -133,6 +133,7 @@ impl<'c, 'i, 'e, R: Threads + Wait, G: Gate + Sync> Evaluator<'c, 'i, 'e, R, G> 
         }
     }
 
+    /// Returns the solutions of a basic graph pattern over the active graph.
     fn pattern(
         &self,
         dict: Dict,

@@ -8,7 +8,7 @@ ghost use Rattle.sparql_eval.specs.KeyedRows.{key_number, pairing_key, text_hash
 ghost use Rattle.sparql_eval.specs.Numbered.{IsKnownAt, IsKnownCell};
 ghost use Rattle.sparql_eval.specs.Required.{OnSomePair};
 
-use crate::equalities::{Equality, MOST_EQUALITIES};
+use crate::equalities::{Equality, MOST_KEYS};
 use crate::read_row::number_at;
 use dict_core::Dict;
 use rdf_core::Term;
@@ -40,7 +40,7 @@ fn add_key(key: Equality, keys: &mut Vec<Equality>) -> Result<(), AllocError>
     ensures required { OnOk result ((test : Solution Term → Bool) → Requires test (key ∷ [])
         → Requires test keys.old.items → Requires test keys.new.items) }
 {
-    if keys.len() < MOST_EQUALITIES {
+    if keys.len() < MOST_KEYS {
         keys.push(key)?;
     }
     Ok(())

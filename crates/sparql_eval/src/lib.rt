@@ -2,9 +2,10 @@
 //! and a dictionary gives the term of each number.
 //!
 //! [`evaluate`] takes a plan, an index and the dictionary of its numbers. It returns the rows of
-//! the solutions and a dictionary. [`evaluate_counted`] also counts the rows over which expressions are errors. [`graph`] evaluates a tree in named graphs. Each other operator
-//! is a function of its own: [`pattern`], [`join`], [`left_join`], [`minus`], [`union`],
-//! [`filter`], [`extend`], [`project`], [`distinct`] and [`table`].
+//! the solutions and a dictionary. [`evaluate_counted`] also counts the rows over which expressions
+//! are errors. [`graph`] evaluates a tree in named graphs. Each other operator is a function of its
+//! own: [`pattern`], [`join`], [`left_join`], [`minus`], [`union`], [`filter`], [`extend`],
+//! [`project`], [`distinct`] and [`table`].
 //!
 //! Callers rely on two clauses of each of them:
 //!
@@ -19,11 +20,14 @@
 //! Standard: SPARQL 1.1 Query Language, sections 18.5 and 18.6. The crate algebra_model states its
 //! definitions.
 //!
-//! Reading order: `appending`, `unions`, `projections`, `distinctness` (rows alone); `operator_result` (rows
-//! with a dictionary); `numbering`, `tables` (terms added to the dictionary); `read_row`, `filters`,
-//! `piece_values`, `values`, `extensions` (expressions); `patterns`, `graphs` (the index); `joins`
-//! (two lists of rows); `mentions`, `closed`, `forms`, `evaluator`, `two_inputs`, `trees_to_join`, `filtered_trees`,
-//! `named_graphs`, `across_graphs`, `evaluation` (a plan). Tests: `evaluation` of the crate query_tests.
+//! Reading order: `appending`, `unions`, `projections`, `distinctness` (rows alone); `operator_result`
+//! (rows with a dictionary); `numbering`, `tables` (terms added to the dictionary); `read_row`,
+//! `filters`, `piece_values`, `values`, `extensions` (expressions); `patterns`, `graphs` (the index);
+//! `equalities`, `keyed_rows`, `keyed_joins`, `fitted_joins`, `joins` (two lists of rows);
+//! `pair_counts`, `separated_pairs`, `separated_classes`, `separated`, `separated_rows` (pairs that a
+//! join by keys leaves out); `mentions`, `closed`, `possible_graphs`, `forms`, `evaluator`,
+//! `two_inputs`, `trees_to_join`, `tree_sizes`, `filtered_trees`, `named_graphs`, `across_graphs`,
+//! `evaluation` (a plan). Tests: `evaluation` of the crate query_tests.
 //!
 //! ```text
 //! { ?s p ?o OPTIONAL { ?o p ?z } }  over  x p y, y p z  =  (?s: x, ?o: y, ?z: z), (?s: y, ?o: z)

@@ -12,10 +12,11 @@ use row_core::Rows;
 use sparql_algebra::Expr;
 use std::alloc::{AllocError, Global};
 
-/// The number of pairs that are tested because an equality may be an error over one of their terms:
-/// for each row of both sides, and for any number of rows.
+/// The number of pairs that are tested for each row of both sides, because an equality may be an error
+/// over one of their terms.
 const PAIRS_A_ROW: usize = 8;
 
+/// The number of such pairs that are tested for any number of rows.
 pub(crate) const PAIRS_AT_LEAST: usize = 100_000;
 
 /// The number of pairs that are tested to find one over which the condition has a value.
@@ -29,6 +30,7 @@ pub(crate) enum Side {
 }
 
 impl Side {
+    /// Returns the other side.
     pub(crate) fn other(self) -> Side {
         match self {
             Side::Left => Side::Right,
@@ -182,6 +184,8 @@ impl<'a> Pairs<'a> {
         Ok(seen)
     }
 
+    /// Counts the pair of a row of this side, over which an equality may be an error, and a row of the
+    /// other side. A pair with such a row on both sides is counted for the left one alone.
     fn count_at(&self, side: Side, row: usize, other: usize) -> Result<(), AllocError> {
         match side {
             Side::Left => self.count_if_separated(row, other, 1),
@@ -190,6 +194,7 @@ impl<'a> Pairs<'a> {
         }
     }
 
+    /// Returns whether an equality may be an error over a row of this side.
     pub(crate) fn row_may_fail(&self, side: Side, row: usize) -> bool {
         match side {
             Side::Left => row_may_fail(self.dict, self.left, row, self.keys, side),

@@ -125,6 +125,8 @@ impl<'a> Pairs<'a> {
         Ok(true)
     }
 
+    /// Adds the pair of a row of this side, over which an equality may be an error, and a row of the
+    /// other side. A pair with such a row on both sides is added for the left one alone.
     fn add_at(
         &self,
         side: Side,
