@@ -18,10 +18,11 @@ from targets import MANY, ONE, Figures, highest, without
 HERE = os.path.dirname(os.path.abspath(__file__))
 PAGES = ["README.md", "docs/COST.md", "docs/COMPARISON.md", "docs/USAGE.md", "bench/RESULTS.md", "distributed/README.md"]
 # Texts that are no measurements but parts of the design, and those of one page.
-CONSTANTS = ["64 MiB", "4 MiB", "2 MiB", "4 KiB", "128 KiB", "10 MB", "8 GB", "200 milliseconds"]
-CONSTANTS_OF = {"distributed/README.md": ["30 seconds", "16 MiB", "256 MiB", "8 bytes for each quad"]}
-UNIT = r"(?:seconds?|milliseconds?|minutes?|min|ms|MiB|KiB|GiB|MB|GB|bytes (?:a|per|for each) \w+|times (?:as long|its size|the size))"
-FIGURE = re.compile(rf"\b\d[\d.,]*(?:(?: to | and |, | or |-)\d[\d.,]*)*[  ]?{UNIT}\b")
+CONSTANTS = ["64 MiB", "64 KiB", "4 MiB", "2 MiB", "4 KiB", "128 KiB", "10 MB", "8 GB", "200 milliseconds"]
+CONSTANTS_OF = {"distributed/README.md": ["30 seconds", "16 MiB", "256 MiB", "8 bytes for each quad"], "bench/RESULTS.md": ["100 kB"]}
+UNIT = r"(?:seconds?|milliseconds?|microseconds?|minutes?|hours?|min|ms|µs|[kKMGT]B|[KMGT]iB|(?:kilo|mega|giga|tera)bytes?|bytes (?:a|per|for each) \w+|times (?:as long|its size|the (?:\w+ )?size))"
+NUMBER = r"(?:\d[\d.,]*(?:(?: to | and |, | or |-)\d[\d.,]*)*|two|three|four|five|six|seven|eight|nine|ten|twenty|a hundred)"
+FIGURE = re.compile(rf"\b{NUMBER}[ -]?{UNIT}(?!\w)")
 PHRASE = re.compile(r"(<!-- figure: ([\w-]+) -->).*?(<!-- end -->)", re.S)
 HIDDEN = re.compile(r"<!-- generated: .*?<!-- end of the generated part -->|<!-- figure: .*?<!-- end -->|^ *```.*?^ *```|`[^`\n]*`", re.S | re.M)
 LARGEST = "path of four"

@@ -73,7 +73,8 @@ def groups():
     yield "GRAPH of one name", "SELECT ?s ?o { " + nested("GRAPH e:g0 {", "?s e:p ?o", "}") + " }", "SELECT ?s ?o { GRAPH e:g0 { ?s e:p ?o } }"
     yield "GRAPH of a variable, then of names", "SELECT ?s ?o { GRAPH ?g { " + nested("GRAPH e:g0 {", "?s e:p ?o", "}", DEPTH - 1) + " } }", "SELECT ?s ?o { GRAPH e:g0 { ?s e:p ?o } GRAPH ?g {} }"
     yield "FILTER in each group", "SELECT ?s ?o " + nested("{ FILTER(?o = ?o) ", "{ ?s e:p ?o }", "}"), ALL
-    yield "BIND in each group", "SELECT ?s ?o { " + nested("{", "?s e:p ?o", " BIND(STR(?o) AS ?x) }", 1) + " }", ALL
+    levels = DEPTH - 2  # (with the brackets of BIND and STR)
+    yield "BIND in each group", "SELECT ?s ?o { " + "{" * levels + "?s e:p ?o" + "".join(f" BIND(STR(?o) AS ?x{n}) }}" for n in range(levels)) + " }", ALL
     yield "VALUES in each group", "SELECT ?s ?o { " + nested("VALUES ?z { 1 } {", "?s e:p ?o", "}") + " }", ALL
     yield "all of them", "SELECT DISTINCT ?s ?o { " + nested("?s e:p ?o OPTIONAL { { ?s e:p ?o } UNION { ?s e:p ?o MINUS { ?s e:none ?o GRAPH e:g0 {", "?s e:p ?o", "} } } }", DEPTH // 4) + " }", ALL
 

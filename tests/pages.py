@@ -11,7 +11,7 @@ It proves nothing and needs only Python 3. It checks:
   is called by a test itself (tests/api.py lists these);
 - each mutant can be applied: every `old:` text is in its file once;
 - the gate has at most 80 mutants, and one for each known fault in docs/MUTANTS.md that mutants show;
-- the mutants and tests that docs/MUTANTS.md names exist;
+- the mutants and tests that docs/MUTANTS.md names exist, and the names in capitals and small letters of docs/definitions;
 - the quotes and lists of docs/THEOREM.md are those of the sources, and it explains each line that it quotes;
 - the calls and clauses that docs/CONTRACTS.md names exist;
 - the figures of time and memory of the pages are those of bench/results.json, and none is written by hand;
@@ -22,6 +22,7 @@ It proves nothing and needs only Python 3. It checks:
 """
 import argparse
 import difflib
+import glob
 import os
 import re
 import sys
@@ -117,6 +118,15 @@ def name_faults():
     return faults + [f"docs/MUTANTS.md: there is no test {it}" for it in re.findall(r"`(\w+_tests::\w+)`", page) if it not in tests]
 
 
+def definition_faults():
+    """Returns a line for each name such as `IsLoaded` in docs/definitions that no definition file, source or proof has."""
+    files = [it for part in ("specs", "src", "proofs") for kind in ("antt", "rt") for it in glob.glob(f"{ROOT}/crates/*/{part}/*.{kind}")]
+    known = {word for it in files for word in re.findall(r"\w+", read(os.path.relpath(it, ROOT)))}
+    pages = [os.path.relpath(it, ROOT) for it in sorted(glob.glob(f"{ROOT}/docs/definitions/*.md"))]
+    named = [(path, name) for path in pages for name in re.findall(r"`([A-Z][a-z]+[A-Z]\w*)", read(path))]
+    return [f"{path}: nothing is named {name}" for path, name in named if name not in known]
+
+
 def known_faults():
     """Returns a line for each known fault in docs/MUTANTS.md with mutants of which the gate checks none."""
     in_gate = {f"{it.crate}/{it.name}" for it in mutants() if it.in_gate}
@@ -152,7 +162,7 @@ def main():
     if given.out:
         for path, text in pages.items():
             write(path, text)
-    faults = api.faults() + offered.faults() + mutant_faults() + name_faults() + known_faults() + theorem.faults(PART.sub("", read(theorem.PAGE)))
+    faults = api.faults() + offered.faults() + mutant_faults() + name_faults() + definition_faults() + known_faults() + theorem.faults(PART.sub("", read(theorem.PAGE)))
     faults += contracts.rewritten(read(contracts.PAGE), calls.contract_of)[1] + usage.faults() + diagram_faults() + links.faults() + size_faults()
     faults += [it for path in PAGES for it in page_faults(path)]
     faults += [it for path in figures.PAGES for it in figures.faults(path, read(path))]
