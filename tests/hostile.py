@@ -1,13 +1,14 @@
 #!/usr/bin/env python3
 """Runs the built program on deep, long and broken input, and checks the output and the status of each run.
 
-    hostile.py [PATH] [--only WORD] [--size N]
+    hostile.py [PATH] [--only WORD] [--size N] [--large]
 
 PATH is the program (default: crates/spq/out/spq). A case is a command line, a document, and the expected
 output and status. A case fails if a signal ends the program, if the program prints anything else, or if it
 runs for longer than two minutes. The documents of `growth` are read at a size and at four times that size.
 Time and memory may grow by twice that factor, but not by its square.
-`--size N` scales the large documents to N percent of their full size, so that a first run is quick.
+`--size N` scales the large documents to N percent of their full size, so that a first run is quick. `--large` adds a document of more
+than 4 GiB, which needs 6 GB of memory.
 Needs the Python 3 standard library, and cc for two cases that replace calls of the C library.
 """
 import argparse
@@ -633,6 +634,19 @@ def terms_of_one_weak_hash(program):
     expect(chosen.seconds <= 8 * max(others.seconds, 0.2), slower)
 
 
+def more_than_4_gib_of_terms(program):
+    """Checks that terms beyond 4 GiB have the right places: 90,000 literals of 50 kB, of which the last thousand are repeated."""
+    terms, again = program.scaled(90_000), program.scaled(1000)
+    child = subprocess.Popen([program.path, "check"], stdin=subprocess.PIPE, stdout=subprocess.PIPE)
+    with child.stdin as document:
+        for n in itertools.chain(range(terms), range(terms - again, terms)):
+            document.write(b'<http://e/s> <http://e/p> "%s%d" .\n' % (b"a" * 50_000, n))
+    with child.stdout as printed:
+        line = printed.read()
+    status, _, _ = program.wait(child)
+    expect((status, line) == (0, counts(terms, terms + 2, 0)), f"status {status} and {line!r}")
+
+
 # ---- queries
 
 NO_NAMES = b'{"head":{"vars":[]},"results":{"bindings":[{}]}}\n'
@@ -841,6 +855,7 @@ CASES = [
     nothing_left_behind, wrong_words, growth, terms_of_one_weak_hash, brackets, growing_answers, many_graphs_in_turn,
     a_graph_within_many_graphs, long_lists, a_query_before_a_bad_document, long_queries, long_queries_and_little_memory,
 ]
+LARGE = [more_than_4_gib_of_terms]
 
 
 def main():
@@ -848,13 +863,14 @@ def main():
     words.add_argument("program", nargs="?", default=os.path.join(HERE, "..", "crates", "spq", "out", "spq"))
     words.add_argument("--only", default="")
     words.add_argument("--size", type=int, default=100)
+    words.add_argument("--large", action="store_true")
     given = words.parse_args()
     if not os.path.exists(given.program):
         sys.exit(f"no program at {given.program}: build it first (see README)")
     failed = 0
     with tempfile.TemporaryDirectory() as folder:
         program = Program(os.path.abspath(given.program), folder, given.size)
-        for case in CASES:
+        for case in CASES + (LARGE if given.large else []):
             name = case.__name__.replace("_", " ")
             if given.only not in name:
                 continue
