@@ -68,6 +68,8 @@ QUERIES = {
     "equality of two groups": "{ ?a :n ?x } { ?b :n ?y } FILTER(?x = ?y)",
     "sameTerm of two groups": "{ ?a :k ?x } { ?y :n ?z } FILTER(?z > 5 && sameTerm(?x, ?y))",
     "equality of three groups": "{ ?a :n ?x } { ?b :k ?y } { ?c :l ?z } FILTER(?a = ?y && ?b = ?c)",
+    "equality in a second filter": "{ ?a :n ?x } { ?b :n ?y } FILTER(?x > 3) FILTER(?x = ?y && ?y > 2)",
+    "equality in parentheses": "{ ?a :n ?x } { ?b :n ?y } FILTER(?x > 3 && (?x = ?y && ?y > 2))",
     "filter over filter": "{ { ?a :n ?x } { ?b :n ?y } FILTER(?x > 3) } FILTER(?x = ?y)",
     "equality of scores": "{ ?a :d ?x } { ?b :d ?y } FILTER(?x = ?y)",
     "STR of two groups": "{ ?a :n ?x } { ?b :n ?y } FILTER(STR(?x) = STR(?y))",
