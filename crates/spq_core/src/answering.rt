@@ -97,8 +97,7 @@ pub fn answer_query<R: Threads + Wait + RandomSource, G: Gate + Sync, P: Progres
 
 /// Evaluates the plan of a query over a loaded dataset, and prints its rows. Returns the dictionary, too.
 ///
-/// The plan is only borrowed here, and each value that is owned here is dropped by a call: a function that owns a
-/// tree pays for its drop at each of its exits.
+/// The plan is only borrowed here, and each value that is owned here is dropped by a call (docs/PROOF.md).
 fn answer_plan<R: Threads + Wait + RandomSource, G: Gate + Sync, P: Progress>(
     context: &Context<'_, R, G>,
     store: Store,
@@ -241,7 +240,7 @@ pub fn answer<R: Threads + Wait + RandomSource, G: Gate + Sync>(
 }
 
 /// Evaluates a query, which is the one of this text, over a document that is cut into pieces. The query is only
-/// borrowed here: a function that owns a tree pays for its drop at each of its exits.
+/// borrowed here (docs/PROOF.md).
 fn answer_valid<R: Threads + Wait + RandomSource, G: Gate + Sync>(
     context: &Context<'_, R, G>,
     doc: &[u8],

@@ -1,10 +1,11 @@
 //! spq: SPARQL SELECT over an N-Quads document, from bytes to JSON.
 //!
 //! The input is a document and the text of a query. The result is the JSON of the solutions, or the reason why
-//! there is none. [`answer`] has the main contract: every result but `Memory` and `WorkerRefused` is the one that
-//! the standards prescribe (`IsQueryResult` of specs/Outcome.antt). The query is checked first, then the document.
-//! The bytes are the JSON of the algebra's solutions over the dataset, with their repeats, in order. No cut, worker
-//! or gate occurs in the definition, and document and query have at most one result (`one_outcome` of [`laws`]).
+//! there is none. The program calls [`run_words`], whose contract rests on that of [`answer`]: every result but `Memory`
+//! and `WorkerRefused` is the one that the standards prescribe (`IsQueryResult` of specs/Outcome.antt). The query is
+//! checked first, then the document. The bytes are the JSON of the algebra's solutions over the dataset, with their
+//! repeats, in order. No cut, worker or gate occurs in the definition, and document and query have at most one result
+//! (`one_outcome` of [`laws`]).
 //!
 //! [`run`] states the same for a command over a reader and a writer, and what is left on each error. A command has
 //! at most one output for a document (`one_output`). [`run_words`] states it for the words of a command line, and

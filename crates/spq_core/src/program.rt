@@ -187,8 +187,7 @@ fn selected<R: Threads + Wait + RandomSource, S: Source, P: Progress>(
     blocks
 }
 
-/// A select whose query is the one of its text. The query is only borrowed: a function that owns a tree pays for its
-/// drop at each of its exits.
+/// A select whose query is the one of its text. The query is only borrowed (docs/PROOF.md).
 #[derive(Drop)]
 struct ValidSelect<'q> {
     text: &'q str,
