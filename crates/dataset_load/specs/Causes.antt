@@ -11,8 +11,8 @@ use Rattle.dataset_load.specs.declared.reader_fault.ReaderFault.TheVariants.{Bad
 abbrev pub IsTooLong : Option (List ℕ) → Type 0
 IsTooLong left = IfSome left (λ bytes. 2 ^ 55 ≤ length bytes)
 
--- `WorkerRefused` only if a worker could not be started; `Memory` only if an allocation or the random source failed, or if
--- the document is too long.
+-- `WorkerRefused` only if a worker could not be started; `Memory` only if an allocation or the random source failed, if the
+-- document has more than 2^34 - 2 distinct terms, or if it is too long.
 abbrev pub IsCaused : (PoolFault → Type 0) → Option (List ℕ) → ReaderFault → Type 0
 IsCaused fails left (BadLine n) = ⊤
 IsCaused fails left WorkerRefused = fails pool.WorkerRefused

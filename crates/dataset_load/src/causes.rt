@@ -34,14 +34,9 @@ pub(crate) fn load_failed<L: LoadListener>(listener: &L, failed: LoadFault) -> R
     ensures cause { IsFailed L.fails result }
 {
     match failed {
-        LoadFault::BadLine(line) => ReaderFault::BadLine(line),
-        LoadFault::WorkerRefused => {
-            listener.failed(PoolFault::WorkerRefused);
-            ReaderFault::WorkerRefused
-        }
-        LoadFault::Memory => {
-            listener.failed(PoolFault::Memory);
-            ReaderFault::Memory
-        }
+        LoadFault::BadLine(_) => {}
+        LoadFault::WorkerRefused => listener.failed(PoolFault::WorkerRefused),
+        LoadFault::Memory => listener.failed(PoolFault::Memory),
     }
+    ReaderFault::from(failed)
 }

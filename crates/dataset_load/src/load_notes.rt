@@ -49,8 +49,9 @@ pub trait LoadListener {
     /// of the reader is listed. `is_after_utf8` is as in [`Listing`].
     fn found(&self, line: &MalformedLine, is_after_utf8: bool);
 
-    /// Runs on the thread of the caller when a call that loading made has failed: an allocation failed or the runtime
-    /// provided no random numbers (`Memory`), or a worker thread could not be started (`WorkerRefused`).
+    /// Runs on the thread of the caller when a call that loading made has failed: an allocation failed, the document has
+    /// more than 2^34 - 2 distinct terms, or the runtime provided no random numbers (`Memory`); or a worker thread could
+    /// not be started (`WorkerRefused`).
     fn failed(&self, cause: PoolFault)
         ensures known { fails cause };
 }

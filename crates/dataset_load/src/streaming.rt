@@ -62,7 +62,7 @@ struct Fresh {
 /// - `WorkerRefused` if a worker thread could not be started. Those that were started have been joined.
 ///   With one worker no thread is started, so this cannot occur.
 /// - `Memory` if an allocation fails, or if the runtime provides no random numbers. Also if the document has more
-///   than 2^40 rounds, or if the reader has not ended 2^64 - 1 reads after a malformed line.
+///   than 2^34 - 2 distinct terms or 2^40 rounds, or if the reader has not ended 2^64 - 1 reads after a malformed line.
 /// - `Read` if the reader fails in this call. It takes precedence over the other errors.
 ///
 /// On every error, the bytes that were taken are a beginning of what the reader had left.
