@@ -4,11 +4,14 @@ use Rattle.std.specs.Prelude.{MatchOption}
 use Rattle.std.specs.Str.{IsUtf8, IsValidUpTo, NonePass, all_scalars, chars, encode_utf8_all}
 use lib.Utf8.{scalar, encode}
 use Rattle.std.proofs.lemmas.Bool.{cases_lt, eqb-true}
-use Rattle.std.proofs.lemmas.List.{length-take-le, take-append-le, take-append-drop, get_or-append-add}
+use Rattle.std.proofs.lemmas.List.{append-nil, length-drop, length-take-le, take-append-le, take-append-drop, get_or-append-add}
 use Rattle.std.proofs.lemmas.Str.{NoCharPasses-byte, chars-append, chars-encodes, encode_ascii, encodes-append, encodes-chars, length-encode, len_utf8_bounds, scalars-chars}
-use Rattle.std.proofs.Math.Seq.{take-append_seam, drop-append_seam, drop-length}
+use Rattle.std.proofs.Math.Seq.{take-append_seam, drop-append_seam, drop-length, take-length}
+use Rattle.std.proofs.lemmas.Option.{same_Some, slice_get_within}
 use Rattle.rdf_core.proofs.EscapeSteps.{which}
 use Rattle.rdf_core.proofs.EscapeLaws.{and_is, and_parts}
+use Rattle.rdf_core.specs.QuadParts.{QuadParts}
+use Rattle.nquads_core.specs.Grammar.{HasStatement, IsMalformed}
 use Rattle.nquads_core.specs.LineParser.{line_at}
 use Rattle.nquads_core.proofs.LineLaws.{Reads, line_sound}
 use Rattle.nquads_core.proofs.Meaning.{OneLine, read_again}
@@ -23,7 +26,7 @@ use Rattle.line_diagnosis.specs.declared.state.State.{State}
 use Rattle.line_diagnosis.specs.declared.state.State.TheVariants as state
 use Rattle.line_diagnosis.specs.Column.{column_of}
 use Rattle.line_diagnosis.specs.Explained.{IsExplained}
-use Rattle.line_diagnosis.specs.Front.{IsFirstReason, IsLongestText, IsStopped, IsTextEnd, IsWalk}
+use Rattle.line_diagnosis.specs.Front.{IsEndReason, IsFirstReason, IsLongestText, IsStopped, IsTextEnd, IsWalk}
 use Rattle.line_diagnosis.specs.StateAfter.{IsStateAfter, is_line_break}
 use Rattle.line_diagnosis.specs.Place.{IsPlace, IsLinePrefix, IsWellFormed}
 use Rattle.line_diagnosis.specs.Reasons.{IsBroken, IsReason, IsTextReason}
@@ -32,6 +35,7 @@ use Rattle.line_diagnosis.specs.Says.{Says}
 use Rattle.line_diagnosis.specs.Turn.{part, Completes}
 use Rattle.line_diagnosis.proofs.LineTurns.{line_completes, line_read}
 use Rattle.line_diagnosis.proofs.LiveLaws.{live}
+use Rattle.line_diagnosis.proofs.EndLaws.{does_not_end, ends}
 
 -- ---- line breaks, in bytes and in characters
 
@@ -208,6 +212,9 @@ walk_ends text rest w u e f o x =
 
 -- ---- the exact place
 
+whole_prefix : (line : List ℕ) (q : Option QuadParts) → HasStatement line q → IsLinePrefix line
+whole_prefix line q s = record { rest = []; whole = subst IsWellFormed (sym (append-nil line)) (record { meaning = q; statement = s }) }
+
 front_text : (text front back : List ℕ) → IsUtf8 text → chars text ≡ front ++ back → text ≡ encode_utf8_all front ++ encode_utf8_all back
 front_text text front back u e = sym (encodes-chars text u) ∙ ap encode_utf8_all e ∙ encodes-append front back
 
@@ -324,14 +331,18 @@ at_end line text w t k e =
     let parts : text ≡ encode_utf8_all k.front ++ encode_utf8_all k.back = front_text text k.front k.back t.utf8 k.parts in
     omega (arith, k.offset, ap length parts, length-append (encode_utf8_all k.front) (encode_utf8_all k.back), ap (λ (y : List ℕ). length (encode_utf8_all y)) e)
 
+-- the first reason, of these
+abbrev IsFirst : State → Option Reason → Option Reason → Option Reason → Type 0
+IsFirst s o broken result = MatchOption o (MatchOption broken (IsEndReason s result) (λ r. result ≡ Some r)) (λ r. result ≡ Some r)
+
 -- the reason, by that of the walk and that of the bytes after the text
 reason_by : (line text : List ℕ) (w : Walk) (t : IsLongestText line text) (k : IsWalk text w) (o broken : Option Reason) (r : Reason)
-    → IsStopped w.state k.back o → IsTextEnd line text broken → MatchOption o (MatchOption broken (Says w.state None r) (λ x. r ≡ x)) (λ x. r ≡ x) → IsReason line w.offset r
+    → IsStopped w.state k.back o → IsTextEnd line text broken → IsFirst w.state o broken (Some r) → IsReason line w.offset r
 reason_by line text w t k (Some x) broken r h b f =
     let s = split_at line text w t k in
     let here : drop w.offset line ≡ encode h.0 ++ (encode_utf8_all h.1 ++ s.rest) =
     s.after ∙ ap (λ (y : List ℕ). encode_utf8_all y ++ s.rest) h.2 ∙ append_assoc (encode h.0) (encode_utf8_all h.1) s.rest in
-    subst (IsReason line w.offset) (sym f) (text_reason line w.offset x (record {
+    subst (IsReason line w.offset) (same_Some x r (sym f)) (text_reason line w.offset x (record {
       front = k.front;
       before = s.before;
       state = w.state;
@@ -341,7 +352,7 @@ reason_by line text w t k (Some x) broken r h b f =
       says = h.3;
     }))
 reason_by line text w t k None (Some x) r h b f =
-    subst (IsReason line w.offset) (sym f) (broken_reason line w.offset x (subst (λ (n : ℕ). IsBroken line n x) (sym (at_end line text w t k h)) b))
+    subst (IsReason line w.offset) (same_Some x r (sym f)) (broken_reason line w.offset x (subst (λ (n : ℕ). IsBroken line n x) (sym (at_end line text w t k h)) b))
 reason_by line text w t k None None r h b f =
     let s = split_at line text w t k in
     let whole : w.offset ≡ length line = at_end line text w t k h ∙ ap length b in
@@ -352,11 +363,66 @@ reason_by line text w t k None None r h b f =
       after = k.after;
       at = None;
       follows = ap (λ (n : ℕ). drop n line) whole ∙ drop-length line;
-      says = f;
+      says = f.1;
     })
 
-pub walk_reason : (line text : List ℕ) (w : Walk) (broken : Option Reason) (r : Reason) → IsLongestText line text → IsTextEnd line text broken → IsWalk text w → IsFirstReason w broken r → IsReason line w.offset r
+pub walk_reason : (line text : List ℕ) (w : Walk) (broken : Option Reason) (r : Reason) → IsLongestText line text → IsTextEnd line text broken → IsWalk text w → IsFirstReason w broken (Some r) → IsReason line w.offset r
 walk_reason line text w broken r t b k f = reason_by line text w t k w.reason broken r k.stopped b f
+
+-- ---- whether the line is well-formed
+
+no_utf8_longer : (line text : List ℕ) → IsLongestText line text → length text < length line → IsMalformed line
+no_utf8_longer line text t h q s = t.longest (length line) h (omega arith) (subst IsUtf8 (sym (take-length line)) s.utf8)
+
+-- bytes that are no character follow the text
+broken_longer : (line : List ℕ) (n : ℕ) (r : Reason) → IsBroken line n r → n < length line
+broken_longer line n (InvalidUtf8 byte) b = slice_get_within line n byte b.0
+broken_longer line n CutCharacter b = b.0
+broken_longer line n _ b = absurd b
+
+-- a line that goes on after the place
+stops_before : (line text : List ℕ) (w : Walk) → IsLongestText line text → IsWalk text w → w.offset < length line → IsMalformed line
+stops_before line text w t k h q s =
+    let whole = take-length line in
+    no_longer line text w (length line) t k h (omega arith) (subst IsUtf8 (sym whole) s.utf8) (subst IsLinePrefix (sym whole) (whole_prefix line q s))
+
+-- the characters of a line that is read to its end
+whole_front : (line text : List ℕ) (w : Walk) → IsLongestText line text → (k : IsWalk text w) → k.back ≡ [] → text ≡ line → line ≡ encode_utf8_all k.front
+whole_front line text w t k e f =
+    let parts : text ≡ encode_utf8_all k.front ++ encode_utf8_all k.back = front_text text k.front k.back t.utf8 k.parts in
+    sym f ∙ parts ∙ ap (λ (y : List ℕ). encode_utf8_all k.front ++ encode_utf8_all y) e ∙ append-nil (encode_utf8_all k.front)
+
+front_scalars : (line text : List ℕ) (w : Walk) → IsLongestText line text → (k : IsWalk text w) → all_scalars k.front ≡ true
+front_scalars line text w t k = scalars_front k.front k.back (ap all_scalars (sym k.parts) ∙ scalars-chars text t.utf8)
+
+formed_by : (line text : List ℕ) (w : Walk) (t : IsLongestText line text) (k : IsWalk text w) (o broken : Option Reason)
+    → IsStopped w.state k.back o → IsTextEnd line text broken → IsFirst w.state o broken None → IsWellFormed line
+formed_by line text w t k (Some x) broken h b f = absurd cc
+formed_by line text w t k None (Some x) h b f = absurd cc
+formed_by line text w t k None None h b f =
+    let starts = subst Starts (append-nil k.front) (k.after.back [] (ends w.state f)) in
+    subst IsWellFormed (sym (whole_front line text w t k h b)) (well_formed k.front (front_scalars line text w t k) k.after.plain starts)
+
+pub walk_formed : (line text : List ℕ) (w : Walk) (broken : Option Reason) → IsLongestText line text → IsTextEnd line text broken → IsWalk text w → IsFirstReason w broken None → IsWellFormed line
+walk_formed line text w broken t b k f = formed_by line text w t k w.reason broken k.stopped b f
+
+malformed_by : (line text : List ℕ) (w : Walk) (t : IsLongestText line text) (k : IsWalk text w) (o broken : Option Reason) (r : Reason)
+    → IsStopped w.state k.back o → IsTextEnd line text broken → IsFirst w.state o broken (Some r) → IsMalformed line
+malformed_by line text w t k (Some x) broken r h b f =
+    let s = split_at line text w t k in
+    let here : drop w.offset line ≡ encode h.0 ++ (encode_utf8_all h.1 ++ s.rest) =
+    s.after ∙ ap (λ (y : List ℕ). encode_utf8_all y ++ s.rest) h.2 ∙ append_assoc (encode h.0) (encode_utf8_all h.1) s.rest in
+    let size : w.offset < length line = omega (arith, ap length here, length-append (encode h.0) (encode_utf8_all h.1 ++ s.rest), length-encode h.0, len_utf8_bounds h.0, length-drop w.offset line) in
+    stops_before line text w t k size
+malformed_by line text w t k None (Some x) r h b f = no_utf8_longer line text t (broken_longer line (length text) x b)
+malformed_by line text w t k None None r h b f = λ q s.
+    let whole = whole_front line text w t k h b in
+    let same : chars line ≡ k.front = ap chars whole ∙ chars-encodes k.front (front_scalars line text w t k) in
+    let starts = subst Starts (same ∙ sym (append-nil k.front)) (line_completes (chars line) q (read_again line q s)) in
+    does_not_end w.state f.0 (k.after.forth [] starts)
+
+pub walk_malformed : (line text : List ℕ) (w : Walk) (broken : Option Reason) (r : Reason) → IsLongestText line text → IsTextEnd line text broken → IsWalk text w → IsFirstReason w broken (Some r) → IsMalformed line
+walk_malformed line text w broken r t b k f = malformed_by line text w t k w.reason broken r k.stopped b f
 
 pub explained_of : (line text front : List ℕ) (w : Walk) (d : Diagnosis) → IsLongestText line text → IsWalk text w → IsReason line w.offset d.reason → front ≡ take w.offset line → d.offset ≡ length front
     → d.column ≡ column_of d.counted front → (d.counted ≡ Characters → IsUtf8 line) → (d.counted ≡ Bytes → IsUtf8 line → ⊥) → IsExplained line d

@@ -153,11 +153,11 @@ iri_closes_at p s c n e f g =
     (subst (λ (x : ℕ). IsStep (Accepts (state.Iri p scheme.Read)) x (state.Between n)) (sym f)
     (subst (λ (x : Next). IsStep (Accepts (state.Iri p scheme.Read)) 62 (state.Between x)) (sym g) (iri_closes p)))
 
-pub iri_goes_at : (p : Part) (s t : Scheme) (ranges : List (ℕ × ℕ)) (c code : ℕ) → code ≡ c → AreRanges ranges (may_come s) → is_head ranges 0 code ≡ true
+pub iri_goes_at : (p : Part) (s t : Scheme) (c code : ℕ) → code ≡ c → may_come s c ≡ true
     → (may_come s code ≡ true → (cs : List ℕ) → completes_scheme s (code ∷ cs) ≡ completes_scheme t cs) → IsStep (Accepts (state.Iri p s)) c (state.Iri p t)
-iri_goes_at p s t ranges c code e r h a =
-    let m = last_allowed (may_come s) ranges 0 code r refl h in
-    subst (λ (x : ℕ). IsStep (Accepts (state.Iri p s)) x (state.Iri p t)) e (iri_goes p s t code m (a m))
+iri_goes_at p s t c code e m a =
+    let n : may_come s code ≡ true = subst (λ (x : ℕ). may_come s x ≡ true) (sym e) m in
+    subst (λ (x : ℕ). IsStep (Accepts (state.Iri p s)) x (state.Iri p t)) e (iri_goes p s t code n (a n))
 
 -- ---- the steps in an escape
 

@@ -72,6 +72,10 @@ start_stuck p c h cs g = none_some (g.label, g.rest) (sym (start_no c cs h) ∙ 
 
 -- ---- the tail of a label
 
+tail_nothing : label_tail_at [] ≡ ([], [])
+unfolding label_tail_at
+tail_nothing = refl
+
 tail_char : (c : ℕ) (cs : List ℕ) → is_label_char c ≡ true → label_tail_at (c ∷ cs) ≡ (c ∷ (label_tail_at cs).0, (label_tail_at cs).1)
 unfolding label_tail_at
 tail_char c cs h = rw h refl
@@ -93,6 +97,10 @@ dot_alone cs rest e = tail_dot cs ∙ rw e refl
 
 dot_inside : (cs : List ℕ) (x : ℕ) (xs rest : List ℕ) → label_tail_at cs ≡ (x ∷ xs, rest) → label_tail_at (46 ∷ cs) ≡ (46 ∷ x ∷ xs, rest)
 dot_inside cs x xs rest e = tail_dot cs ∙ rw e refl
+
+-- a dot at the end is no part of the label
+pub dot_last : (label_tail_at (46 ∷ [])).1 ≡ 46 ∷ []
+dot_last = ap (λ (y : List ℕ × List ℕ). y.1) (dot_alone [] [] tail_nothing)
 
 abbrev IsRest : Part → List ℕ → Type 0
 IsRest p cs = Completes (part (after p)) cs
@@ -183,7 +191,7 @@ dots_char p c h = record {
   can_end = tt;
 }
 
-no_tail : (x : ℕ) (xs rest other : List ℕ) → ◌≡◌ {A = List ℕ × List ℕ} ([], rest) (x ∷ xs, other) → ⊥
+pub no_tail : (x : ℕ) (xs rest other : List ℕ) → ◌≡◌ {A = List ℕ × List ℕ} ([], rest) (x ∷ xs, other) → ⊥
 no_tail x xs rest other e = let k : [] ≡ x ∷ xs = ap (λ (y : List ℕ × List ℕ). y.0) e in cc
 
 more_dots_forth : (p : Part) (cs xs rest : List ℕ) → label_tail_at cs ≡ (xs, rest) → RestAfterDots p (46 ∷ cs) → RestAfterDots p cs

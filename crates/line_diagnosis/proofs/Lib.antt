@@ -10,6 +10,8 @@ pub mod LabelSteps
 pub mod TagSteps
 pub mod LineTurns
 pub mod LiveLaws
+pub mod EndLaws
+pub mod StayLaws
 pub mod FrontLaws
 pub mod OpenLaws
 pub mod RangeLaws

@@ -1,7 +1,7 @@
 -- The empty line.
-use Rattle.std.proofs.Common.{◌≡◌, ℕ, List, [], refl, inl, arith, rules, None, subst, sym, true, false}
+use Rattle.std.proofs.Common.{ℕ, List, [], refl, inl, arith, rules, None, subst, sym}
 use Rattle.std.proofs.lemmas.Str.{chars-nil}
-use Rattle.nquads_core.specs.Grammar.{IsMalformed, IsEnd}
+use Rattle.nquads_core.specs.Grammar.{IsEnd}
 use Rattle.line_diagnosis.specs.Place.{IsWellFormed}
 
 empty_end : IsEnd []
@@ -18,7 +18,3 @@ empty_line = record {
     derives = refl;
   };
 }
-
--- a line that was read is not malformed, so there is nothing to prove
-pub unread_bad : (line : List ℕ) → false ≡ true → IsMalformed line
-unread_bad line e = λ q s. let no : ⊥ = cc in no

@@ -1,11 +1,11 @@
 -- How far a text is read. Only private clauses use these definitions; what is promised is in Place.
-use Rattle.std.specs.Prelude.{◌≡◌, ℕ, ◌<◌, ◌≤◌, List, [], ◌∷◌, ◌++◌, length, take, Option, Some, None, MatchOption}
+use Rattle.std.specs.Prelude.{◌≡◌, true, false, ℕ, ◌<◌, ◌≤◌, List, [], ◌∷◌, ◌++◌, length, take, Option, Some, None, MatchOption}
 use Rattle.std.specs.Str.{IsUtf8, NonePass, chars, encode_utf8_all}
 use Rattle.line_diagnosis.specs.declared.diagnosis.Walk.{Walk}
 use Rattle.line_diagnosis.specs.declared.reason.Reason.{Reason}
 use Rattle.line_diagnosis.specs.declared.state.State.{State}
 use Rattle.line_diagnosis.specs.Reasons.{IsBroken}
-use Rattle.line_diagnosis.specs.Rest.{Accepts}
+use Rattle.line_diagnosis.specs.Rest.{Accepts, may_end}
 use Rattle.line_diagnosis.specs.Says.{Says}
 use Rattle.line_diagnosis.specs.StateAfter.{IsStateAfter, is_line_break}
 
@@ -36,7 +36,11 @@ pub record IsLongestText (line text : List ℕ) : Type 0 where
 abbrev pub IsTextEnd : List ℕ → List ℕ → Option Reason → Type 0
 IsTextEnd line text broken = MatchOption broken (text ≡ line) (IsBroken line (length text))
 
--- The reason is that of the walk, or else that of the bytes after the text, or else it is true of the end of the line.
-abbrev pub IsFirstReason : Walk → Option Reason → Reason → Type 0
+-- the line may end in the state, or the reason is true of it and of the end of the line
+abbrev pub IsEndReason : State → Option Reason → Type 0
+IsEndReason s result = MatchOption result (may_end s ≡ true) (λ r. (may_end s ≡ false) × Says s None r)
+
+-- The reason is that of the walk, or else that of the bytes after the text, or else that of the end of the line.
+abbrev pub IsFirstReason : Walk → Option Reason → Option Reason → Type 0
 IsFirstReason walk broken result = MatchOption walk.reason
-    (MatchOption broken (Says walk.state None result) (λ r. result ≡ r)) (λ r. result ≡ r)
+    (MatchOption broken (IsEndReason walk.state result) (λ r. result ≡ Some r)) (λ r. result ≡ Some r)

@@ -1,6 +1,6 @@
 -- The texts that complete a line after a state of the reader. Only private clauses use these
 -- definitions; what is promised is in Place. A text is a list of characters.
-use Rattle.std.specs.Prelude.{◌≡◌, ℕ, zero, suc, ◌/◌, Bool, true, ◌&&◌, ◌||◌, List, [], ◌∷◌, ◌++◌, Some, Result, MatchResult, ◌==◌, nat_le}
+use Rattle.std.specs.Prelude.{◌≡◌, ℕ, zero, suc, ◌/◌, Bool, true, false, ◌&&◌, ◌||◌, List, [], ◌∷◌, ◌++◌, Some, Result, MatchResult, ◌==◌, nat_le}
 use Rattle.std.specs.Char.{is_ascii_alphabetic, is_ascii_alphanumeric, IsScalar}
 use Rattle.std.specs.List.{list_all, list_any}
 use lib.Utf8.{scalar}
@@ -19,7 +19,7 @@ use Rattle.line_diagnosis.specs.declared.state.Scheme.{Scheme}
 use Rattle.line_diagnosis.specs.declared.state.Scheme.TheVariants as scheme
 use Rattle.line_diagnosis.specs.declared.state.State.{State}
 use Rattle.line_diagnosis.specs.declared.state.State.TheVariants as state
-use Rattle.line_diagnosis.specs.Turn.{Completes, part, suffix}
+use Rattle.line_diagnosis.specs.Turn.{Completes, is_last, part, suffix}
 
 -- the part of the statement after a term at this position
 abbrev pub after : Part → Next
@@ -28,6 +28,12 @@ after position.Predicate = next.Object
 after position.Object = next.Graph
 after position.Datatype = next.Graph
 after position.Graph = next.Dot
+
+-- the dot may come next
+abbrev pub is_before_dot : Next → Bool
+is_before_dot next.Graph = true
+is_before_dot next.Dot = true
+is_before_dot _ = false
 
 -- ---- IRIs
 
@@ -167,6 +173,13 @@ pub record CanDenote (test : ℕ → Bool) (d : Digits) : Type 0 where
   pub c : ℕ
   pub allowed : test c ≡ true
   pub begins : head (suc d.more) c ≡ d.value
+
+-- nothing more has to come: blanks and comments may be left, or a dot after a label ends the statement
+abbrev pub may_end : State → Bool
+may_end (state.Between n) = is_last (part n)
+may_end state.Comment = true
+may_end (state.LabelDot p) = is_before_dot (after p)
+may_end _ = false
 
 -- in an escape the digits can denote a character that may come there
 abbrev pub CanEnd : State → Type 0

@@ -1,12 +1,12 @@
 //! The place of a malformed line, and the reason.
 
-ghost use Rattle.std.specs.Prelude.{◌≡◌, ◌∷◌, ◌<◌, ◌^◌, ℕ, true, false, List, length, IfOk, IfNone, IfSome, MatchResult, OnSome};
+ghost use Rattle.std.specs.Prelude.{◌≡◌, ◌∷◌, ◌<◌, ◌^◌, ℕ, true, false, List, length, IfNone, IfSome, MatchResult, OnSome};
 ghost use Rattle.std.specs.Str.{IsUtf8, NonePass, chars};
 ghost use Rattle.nquads_core.specs.Grammar.{IsMalformed};
 ghost use Rattle.line_diagnosis.specs.Place.{IsWellFormed};
 ghost use Rattle.line_diagnosis.specs.Column.{column_of};
 ghost use Rattle.line_diagnosis.specs.Explained.{IsExplained};
-ghost use Rattle.line_diagnosis.specs.Front.{IsFirstReason, IsLongestText, IsTextEnd, IsWalk};
+ghost use Rattle.line_diagnosis.specs.Front.{IsEndReason, IsFirstReason, IsLongestText, IsTextEnd, IsWalk};
 ghost use Rattle.line_diagnosis.specs.Reasons.{IsReason};
 ghost use Rattle.line_diagnosis.specs.Rest.{Accepts, IsStep, Steps};
 ghost use Rattle.line_diagnosis.specs.Says.{Explains, Says};
@@ -19,12 +19,10 @@ use crate::labels::{step_label, step_label_dot, step_label_dots};
 use crate::likeness::{begins_with_mark, is_utf16, packing_of};
 use crate::literals::{step_string, step_string_backslash, step_string_escape};
 use crate::reason::{Found, Next, Reason};
-use crate::state::{State, after};
+use crate::state::{Part, Scheme, State, after};
 use crate::tags::{step_subtag, step_tag};
 use excerpt::count_of;
-use nquads_core::{LineFault, read_line};
-use rdf_core::lexical::{first_char, is_label_start};
-use std::alloc::{AllocError, Global};
+use rdf_core::lexical::{first_char, is_iri_char, is_label_start, is_string_char};
 
 /// The unit of a column.
 #[derive(Clone, Copy)]
@@ -134,16 +132,16 @@ fn step(state: State, c: char) -> Result<State, Reason>
     step_plain(state, c)
 }
 
-/// Returns the reason why a line may not end in a state.
-fn reason_at_end(state: State) -> Reason
-    ensures { Says state None result }
+/// Returns the reason why a line may not end in a state, or None if it may.
+fn reason_at_end(state: State) -> Option<Reason>
+    ensures { IsEndReason state result }
 {
-    match state {
+    let reason = match state {
+        State::Between(Next::Subject | Next::End) | State::Comment => return None,
         State::Between(next) => Reason::Unexpected(next, Found::LineEnd),
         State::AfterString | State::Tag | State::Subtag => {
             Reason::Unexpected(Next::Graph, Found::LineEnd)
         }
-        State::Comment => Reason::Unexpected(Next::End, Found::LineEnd),
         State::Iri(_, _) | State::IriBackslash(_, _) | State::IriDigits(_, _, _) => Reason::OpenIri,
         State::String | State::StringBackslash | State::StringDigits(_) => Reason::OpenLiteral,
         State::Caret => Reason::OneCaret(Found::LineEnd),
@@ -152,7 +150,26 @@ fn reason_at_end(state: State) -> Reason
         State::Underscore(_) => Reason::NoColon(Found::LineEnd),
         State::LabelStart(_) => Reason::LabelStart(Found::LineEnd),
         State::Label(part) => Reason::Unexpected(after(part), Found::LineEnd),
+        State::LabelDot(Part::Object | Part::Datatype | Part::Graph) => return None,
         State::LabelDot(_) | State::LabelDots(_) => Reason::LabelDot,
+    };
+    Some(reason)
+}
+
+/// Returns whether a character is seen to leave the reader in its state, as most characters of IRIs and strings do.
+///
+/// `false` says nothing.
+#[inline(always)]
+fn stays(state: State, c: char) -> bool
+    ensures { result ≡ true → (is_line_break c ≡ false) × IsStep (Accepts state) c state }
+{
+    match state {
+        State::Iri(_, scheme) => match scheme {
+            Scheme::Read => is_iri_char(c),
+            Scheme::Unread | Scheme::Begun => false,
+        },
+        State::String => is_string_char(c),
+        _ => false,
     }
 }
 
@@ -163,6 +180,10 @@ fn read_front(text: &str) -> Walk
     let mut state = State::Between(Next::Subject);
     let mut rest = text;
     while let Some((c, after)) = first_char(rest) {
+        if stays(state, c) {
+            rest = after;
+            continue;
+        }
         match step(state, c) {
             Ok(next) => {
                 state = next;
@@ -207,14 +228,14 @@ fn text_of(line: &[u8]) -> (&str, Option<Reason>)
 }
 
 /// Returns the reason at the end of a walk over the text of a line, given the reason why the bytes after the text are not
-/// a character.
-fn reason_of(walk: Walk, broken: Option<Reason>) -> Reason
+/// a character. Returns None if the line is well-formed.
+fn reason_of(walk: Walk, broken: Option<Reason>) -> Option<Reason>
     ensures { IsFirstReason walk broken result }
 {
     match walk.reason {
-        Some(reason) => reason,
+        Some(reason) => Some(reason),
         None => match broken {
-            Some(reason) => reason,
+            Some(reason) => Some(reason),
             None => reason_at_end(walk.state),
         },
     }
@@ -237,18 +258,6 @@ fn refined(line: &[u8], offset: usize, reason: Reason) -> Reason
         return Reason::Utf16;
     }
     reason
-}
-
-/// Returns whether a line is malformed.
-fn is_malformed(alloc: Global, line: &[u8]) -> Result<bool, AllocError>
-    ensures bad { IfOk result (λ found. found ≡ true → IsMalformed line.now) }
-    ensures well_formed { IfOk result (λ found. found ≡ false → IsWellFormed line.now) }
-{
-    match read_line(alloc, line) {
-        Ok(_) => Ok(false),
-        Err(LineFault::Bad) => Ok(true),
-        Err(LineFault::Memory) => Err(AllocError),
-    }
 }
 
 /// Returns the number of characters of bytes that are UTF-8.
@@ -296,31 +305,19 @@ fn placed(line: &[u8], front: &[u8], reason: Reason) -> Diagnosis
     }
 }
 
-/// Returns the place and the reason of a malformed line.
-fn explain(line: &[u8]) -> Diagnosis
-    ensures explained { IsExplained line.now result }
-{
-    let (text, broken) = text_of(line);
-    let walk = read_front(text);
-    let reason = refined(line, walk.offset, reason_of(walk, broken));
-    placed(line, &line[..walk.offset], reason)
-}
-
 /// Returns the place and the reason of a malformed line, given without its line end. Returns None
 /// for a well-formed one (RDF 1.1 N-Quads, section 4).
 ///
 /// Some well-formed line begins with the bytes before the place, and none with the character at the
 /// place as well.
-///
-/// # Errors
-/// `AllocError` if an allocation fails.
-pub fn diagnose(alloc: Global, line: &[u8]) -> Result<Option<Diagnosis>, AllocError>
-    ensures well_formed { IfOk result (λ found. IfNone found (IsWellFormed line.now)) }
-    ensures bad { IfOk result (λ found. OnSome found (IsMalformed line.now)) }
-    ensures explained { IfOk result (λ found. IfSome found (IsExplained line.now)) }
+pub fn diagnose(line: &[u8]) -> Option<Diagnosis>
+    ensures well_formed { IfNone result (IsWellFormed line.now) }
+    ensures bad { OnSome result (IsMalformed line.now) }
+    ensures explained { IfSome result (IsExplained line.now) }
 {
-    if !is_malformed(alloc, line)? {
-        return Ok(None);
-    }
-    Ok(Some(explain(line)))
+    let (text, broken) = text_of(line);
+    let walk = read_front(text);
+    let first = reason_of(walk, broken)?;
+    let reason = refined(line, walk.offset, first);
+    Some(placed(line, &line[..walk.offset], reason))
 }

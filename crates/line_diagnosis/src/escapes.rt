@@ -53,8 +53,8 @@ pub fn iri_ranges(scheme: Scheme) -> Ranges
     }
 }
 
-/// Returns the number without its last hexadecimal digits.
-fn head(number: u64, digits: u32) -> u64
+/// Returns the number without its last hexadecimal digits, for any number of them.
+fn long_head(number: u64, digits: u32) -> u64
     ensures { result ≡ head digits number }
 {
     let mut head = number;
@@ -66,8 +66,23 @@ fn head(number: u64, digits: u32) -> u64
     head
 }
 
+/// Returns the number without its last hexadecimal digits. It is fast for fewer than four, as in `\u`.
+#[inline(always)]
+fn head(number: u64, digits: u32) -> u64
+    ensures { result ≡ head digits number }
+{
+    match digits {
+        0 => number,
+        1 => number / 16,
+        2 => number / 16 / 16,
+        3 => number / 16 / 16 / 16,
+        _ => long_head(number, digits),
+    }
+}
+
 /// Returns whether the digits of this value, and `more` further ones, can denote a code point of
 /// the ranges.
+#[inline(always)]
 pub fn is_head(ranges: &[(u64, u64)], more: u32, value: u64) -> bool
     ensures { result ≡ is_head ranges.now more value }
 {
@@ -80,6 +95,7 @@ pub fn is_head(ranges: &[(u64, u64)], more: u32, value: u64) -> bool
 }
 
 /// Returns the digits after `\u` or `\U`, or None if the letter is another one.
+#[inline(always)]
 pub fn digits_after(letter: char) -> Option<Digits>
     ensures { MatchOption result ((letter ≢ 117) × (letter ≢ 85))
         (λ d. (d.value ≡ 0) × (((letter ≡ 117) × (d.more ≡ 3)) ⊎ ((letter ≡ 85) × (d.more ≡ 7)))) }
@@ -111,6 +127,7 @@ fn reason_of(value: u64, more: u32) -> Reason
 
 /// Reads one more digit of an escape, which must denote a code point of these ranges. Returns the
 /// value of the digits.
+#[inline(always)]
 pub fn step_digits(digits: Digits, ranges: &[(u64, u64)], c: char) -> Result<u64, Reason>
     requires { are_code_points ranges.now ≡ true }
     ensures digit { MatchResult result

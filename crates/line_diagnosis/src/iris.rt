@@ -6,10 +6,24 @@ ghost use Rattle.line_diagnosis.specs.Says.{Explains, Says};
 ghost use Rattle.line_diagnosis.specs.declared.state.Part.{Part};
 ghost use Rattle.line_diagnosis.specs.declared.state.State.TheVariants as state;
 
-use crate::escapes::{digits_after, iri_ranges, is_head, step_digits};
+use crate::escapes::{digits_after, iri_ranges, step_digits};
 use crate::reason::{Found, Reason};
 use crate::state::{Digits, Part, Scheme, State, after};
 use rdf_core::lexical::is_iri_char;
+
+/// Returns whether a character may come next in an IRI.
+#[inline(always)]
+fn may_come(scheme: Scheme, c: char) -> bool
+    ensures { result ≡ may_come scheme c }
+{
+    match scheme {
+        Scheme::Unread => c.is_ascii_alphabetic(),
+        Scheme::Begun => {
+            c == ':' || c.is_ascii_alphanumeric() || c == '+' || c == '-' || c == '.'
+        }
+        Scheme::Read => is_iri_char(c),
+    }
+}
 
 /// Returns the state of the scheme after one more character.
 fn scheme_after(scheme: Scheme, code: u64) -> Scheme
@@ -53,8 +67,8 @@ pub fn step_iri(part: Part, scheme: Scheme, c: char) -> Result<State, Reason>
     if c == '>' && matches!(scheme, Scheme::Read) {
         return Ok(State::Between(after(part)));
     }
-    let code = u64::from(c as u32);
-    if is_head(iri_ranges(scheme), 0, code) {
+    if may_come(scheme, c) {
+        let code = u64::from(c as u32);
         return Ok(State::Iri(part, scheme_after(scheme, code)));
     }
     Err(reason_of(scheme, c))

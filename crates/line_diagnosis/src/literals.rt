@@ -23,6 +23,7 @@ pub fn step_string(c: char) -> Result<State, Reason>
 }
 
 /// Reads a character after a backslash.
+#[inline(always)]
 pub fn step_string_backslash(c: char) -> Result<State, Reason>
     ensures steps { Steps (Accepts state.StringBackslash) c result }
     ensures says { Explains state.StringBackslash c result }
@@ -37,6 +38,7 @@ pub fn step_string_backslash(c: char) -> Result<State, Reason>
 }
 
 /// Reads a character of an escape.
+#[inline(always)]
 pub fn step_string_escape(digits: Digits, c: char) -> Result<State, Reason>
     ensures steps { Steps (Accepts (state.StringDigits digits)) c result }
     ensures says { Explains (state.StringDigits digits) c result }

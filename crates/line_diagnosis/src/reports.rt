@@ -74,7 +74,7 @@ pub fn report(
     ensures message { IfOk result
         (λ found. IfSome found (λ s. IsReport context.now.number line.now (string_bytes s))) }
 {
-    match diagnose(alloc, line)? {
+    match diagnose(line) {
         None => Ok(None),
         Some(diagnosis) => {
             let hint = hint_of(line, &diagnosis, context);
@@ -98,7 +98,7 @@ pub fn report_without_hint(
     ensures message { IfOk result
         (λ found. IfSome found (λ s. IsReport number line.now (string_bytes s))) }
 {
-    match diagnose(alloc, line)? {
+    match diagnose(line) {
         None => Ok(None),
         Some(diagnosis) => Ok(Some(message_of(alloc, line, number, &diagnosis, None)?)),
     }

@@ -108,7 +108,7 @@ impl<'d> PieceList<'d> {
             self.lines += 1;
             return Ok(());
         }
-        match diagnose(alloc, line)? {
+        match diagnose(line) {
             Some(diagnosis) => self.add_malformed(line, is_cut, &diagnosis),
             None => {
                 self.lines += 1;

@@ -48,7 +48,7 @@ impl Before {
         alloc: Global,
         line: &MalformedLine,
     ) -> Result<Option<String>, AllocError> {
-        let Some(diagnosis) = line.diagnosis(alloc)? else {
+        let Some(diagnosis) = line.diagnosis() else {
             return Ok(None);
         };
         let reason = diagnosis.reason.summary();

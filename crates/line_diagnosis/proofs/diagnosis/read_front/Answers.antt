@@ -10,6 +10,10 @@ pub loop-c-preserved : goal.loop-c-preserved
 loop-c-preserved c =
     front_next c.args.text.now c.loop-c.rest.now c.in-Some.after.now c.in-Some.c c.loop-c.state c.in-Ok.next c.in-Some.ensures.1 c.in-Some.ensures.0 c.in-Ok.ensures.steps c.loop-c.invariant
 
+pub loop-c-preserved-then-stays : goal.loop-c-preserved-then-stays
+loop-c-preserved-then-stays c =
+    front_next c.args.text.now c.loop-c.rest.now c.in-Some.after.now c.in-Some.c c.loop-c.state c.loop-c.state c.in-Some.ensures.1 c.in-Some.ensures.0 (c.stays.ensures c.if-stays.true) c.loop-c.invariant
+
 pub overflow_sub-result : goal.overflow_sub-result
 overflow_sub-result c = let f = front_length c.args.text.now c.loop-c.rest.now c.loop-c.state c.utf8.text c.loop-c.invariant in omega (arith, f)
 

@@ -1,6 +1,5 @@
-use Rattle.std.proofs.Common.{◌≡◌, ◌∙◌, ℕ, false, sym, subst}
-use Rattle.rdf_core.specs.Characters.{in_ranges}
-use Rattle.line_diagnosis.specs.Rest.{Accepts, is_head}
+use Rattle.std.proofs.Common.{◌∙◌, sym}
+use Rattle.line_diagnosis.specs.Rest.{Accepts}
 use Rattle.line_diagnosis.specs.declared.state.State.TheVariants as state
 use Rattle.line_diagnosis.proofs.IriSteps.{iri_backslash, iri_closes_at, iri_goes_at, iri_stops}
 use Rattle.line_diagnosis.proofs.LabelSteps.{at_char}
@@ -16,16 +15,12 @@ returns-then-matches-clause-steps c = elim c.match-matches.branch [
   | in_default w ↦ absurd cc
 ]
 
-pub returns-then-is_head-clause-steps : goal.returns-then-is_head-clause-steps
-returns-then-is_head-clause-steps c =
-    iri_goes_at c.args.part c.args.scheme c.scheme_after.result c.iri_ranges.result.now c.args.c c.from-code.result c.from-code.ensures c.iri_ranges.ensures.ranges
-    (sym c.is_head.ensures ∙ c.if-is_head.true) c.scheme_after.ensures
+pub returns-then-may_come-clause-steps : goal.returns-then-may_come-clause-steps
+returns-then-may_come-clause-steps c =
+    iri_goes_at c.args.part c.args.scheme c.scheme_after.result c.args.c c.from-code.result c.from-code.ensures (sym c.may_come.ensures ∙ c.if-may_come.true) c.scheme_after.ensures
 
 pub returns-clause-steps : goal.returns-clause-steps
 returns-clause-steps c =
-    let h = sym c.is_head.ensures ∙ c.if-is_head.false in
-    let same : is_head c.iri_ranges.result.now 0 c.args.c ≡ false = subst (λ (x : ℕ). is_head c.iri_ranges.result.now 0 x ≡ false) c.from-code.ensures h in
-    let none : in_ranges c.iri_ranges.result.now c.args.c ≡ false = same in
     iri_stops c.args.part c.args.scheme c.args.c c.if-c-eq92.false
     (λ e k. elim c.else-c-eq62.branch [
       | else-c-eq62-via-then-c-eq62+else-matches w ↦ elim w.match-matches.branch [
@@ -34,7 +29,7 @@ returns-clause-steps c =
       ]
       | else-c-eq62-via-else-c-eq62 w ↦ w.if-c-eq62.false e
     ])
-    c.ranges.c.0 (sym (c.iri_ranges.ensures.ranges.same c.args.c) ∙ none)
+    c.ranges.c.0 (sym c.may_come.ensures ∙ c.if-may_come.false)
 
 pub returns-clause-says : goal.returns-clause-says
 returns-clause-says c = c.reason_of.ensures c.args.part

@@ -5,7 +5,7 @@ use Rattle.malformed_lines.proofs.piece_list.PieceList.add_line.Goals as goal
 
 pub returns-in-None-clause-listed : goal.returns-in-None-clause-listed
 returns-in-None-clause-listed c = λ before h.
-    let w : IsWellFormed c.args.line.now = rw c.in-None.is at c.in_ok-diagnosis.ensures.well_formed in
+    let w : IsWellFormed c.args.line.now = c.in-None.ensures.well_formed in
     one_well_formed before c.args.line.now w.meaning c.args.self.now _ h w.statement refl refl refl refl
 
 pub returns-then-branch-clause-listed : goal.returns-then-branch-clause-listed
