@@ -1,3 +1,4 @@
 pub mod Output
+pub mod Refused
 pub mod Run
 pub mod Report

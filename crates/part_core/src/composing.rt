@@ -1,5 +1,5 @@
 //! The output of a command for its input.
-ghost use Rattle.std.specs.Prelude.{◌≡◌, ◌<◌, ◌++◌, ℕ, List, codes, decimal, length, map, IfErr, IfOk, OnOk};
+ghost use Rattle.std.specs.Prelude.{◌≡◌, ◌<◌, ◌++◌, ℕ, List, codes, decimal, length, map, true, IfErr, IfOk, OnOk};
 ghost use Rattle.nquads_core.specs.Lines.{lines};
 ghost use Rattle.nquads_core.specs.Pieces.{HaveStatements, IsFirstMalformed};
 ghost use Rattle.rdf_core.specs.QuadParts.{QuadParts};
@@ -8,6 +8,7 @@ ghost use Rattle.cluster_parts.specs.Parts.{FitInEightBytes, number_list};
 ghost use Rattle.cluster_parts.specs.Output.{again_parts};
 ghost use Rattle.cluster_parts.specs.Repeated.{numbers_of};
 ghost use Rattle.part_core.specs.Output.{HasPartitions, IsAgain, IsBadBlock, IsBadInput, IsCounted, IsFirstOf, IsKeptOf, IsOutput, IsRepeatedIn, IsPlanned, IsQuadSplit, IsSplit, IsTermSplit, IsUnsealed, limit_word, merge_line};
+ghost use Rattle.part_core.specs.Refused.{IsRefusedInput, IsUnplanned, is_of_query};
 ghost use Rattle.result_merge.specs.Merging.{IsMerged};
 ghost use Rattle.part_core.specs.declared.fault.PartFault.TheVariants.{BadLine};
 
@@ -29,6 +30,7 @@ fn unsealed(alloc: Global, input: &[u8]) -> Result<Vec<u8>, PartFault>
     ensures texts { IfOk result (λ joined. (texts : List (List ℕ))
         × (input.now ≡ all_sealed texts) × (joined.items ≡ joined_texts texts)) }
     ensures no_line { IfErr result (λ fault. (k : ℕ) → fault ≡ BadLine k → ⊥) }
+    ensures no_query { IfErr result (λ fault. is_of_query fault ≡ true → ⊥) }
 {
     match join_sealed(alloc, input) {
         Ok(joined) => Ok(joined),
@@ -50,6 +52,7 @@ fn number_line(alloc: Global, n: u64) -> Result<Vec<u8>, AllocError>
 fn line_of_number(alloc: Global, n: u64) -> Result<Vec<u8>, PartFault>
     ensures line { IfOk result (λ line. line.items ≡ decimal n ++ codes "\n") }
     ensures no_line { IfErr result (λ fault. (k : ℕ) → fault ≡ BadLine k → ⊥) }
+    ensures no_query { IfErr result (λ fault. is_of_query fault ≡ true → ⊥) }
 {
     match number_line(alloc, n) {
         Ok(line) => Ok(line),
@@ -61,6 +64,7 @@ fn line_of_number(alloc: Global, n: u64) -> Result<Vec<u8>, PartFault>
 fn counted(alloc: Global, state: RandomState, input: &[u8]) -> Result<Vec<u8>, PartFault>
     ensures output { IfOk result (λ output. IsCounted input.now output.items) }
     ensures no_line { IfErr result (λ fault. (k : ℕ) → fault ≡ BadLine k → ⊥) }
+    ensures no_query { IfErr result (λ fault. is_of_query fault ≡ true → ⊥) }
 {
     let count = match count_lines(alloc, state, input) {
         Ok(count) => count,
@@ -74,6 +78,7 @@ fn counted(alloc: Global, state: RandomState, input: &[u8]) -> Result<Vec<u8>, P
 fn repeated(alloc: Global, state: RandomState, input: &[u8]) -> Result<Vec<u8>, PartFault>
     ensures output { IfOk result (λ output. IsRepeatedIn input.now output.items) }
     ensures no_line { IfErr result (λ fault. (k : ℕ) → fault ≡ BadLine k → ⊥) }
+    ensures no_query { IfErr result (λ fault. is_of_query fault ≡ true → ⊥) }
 {
     match repeated_hashes(alloc, state, input) {
         Ok(out) => Ok(out),
@@ -91,6 +96,7 @@ fn hashes_and_block(
         × (input.now ≡ all_sealed (map number_list lists) ++ r.1.now)) }
     ensures fit { IfOk result (λ r. FitInEightBytes r.0.items) }
     ensures no_line { IfErr result (λ fault. (k : ℕ) → fault ≡ BadLine k → ⊥) }
+    ensures no_query { IfErr result (λ fault. is_of_query fault ≡ true → ⊥) }
 {
     match first_lists(alloc, input, partitions) {
         Ok(parts) => Ok(parts),
@@ -111,6 +117,7 @@ fn split_block_again(
         × (out.items ≡ again_parts hashes.now partitions quads)) }
     ensures bad_line { IfErr result
         (λ fault. (k : ℕ) → fault ≡ BadLine k → IsFirstMalformed (lines block.now) k) }
+    ensures no_query { IfErr result (λ fault. is_of_query fault ≡ true → ⊥) }
 {
     match split_again(alloc, state, hashes, block, partitions) {
         Ok(out) => Ok(out),
@@ -128,6 +135,7 @@ fn again(
     requires some { 0 < partitions }
     ensures output { IfOk result (λ output. IsAgain partitions input.now output.items) }
     ensures bad_line { IfErr result (λ fault. (k : ℕ) → fault ≡ BadLine k → IsBadBlock partitions input.now k) }
+    ensures no_query { IfErr result (λ fault. is_of_query fault ≡ true → ⊥) }
 {
     let (hashes, block) = hashes_and_block(alloc, input, partitions)?;
     match split_block_again(alloc, state, hashes.as_slice(), block, partitions) {
@@ -147,6 +155,7 @@ fn split(
     ensures output { IfOk result (λ output. IsSplit partitions input.now output.items) }
     ensures bad_line { IfErr result
         (λ fault. (k : ℕ) → fault ≡ BadLine k → IsFirstMalformed (lines input.now) k) }
+    ensures no_query { IfErr result (λ fault. is_of_query fault ≡ true → ⊥) }
 {
     match split_for_check(alloc, state, input, partitions) {
         Ok(out) => Ok(out),
@@ -165,6 +174,7 @@ fn split_terms(
     ensures output { IfOk result (λ output. IsTermSplit partitions input.now output.items) }
     ensures bad_line { IfErr result
         (λ fault. (k : ℕ) → fault ≡ BadLine k → IsFirstMalformed (lines input.now) k) }
+    ensures no_query { IfErr result (λ fault. is_of_query fault ≡ true → ⊥) }
 {
     match split_for_terms(alloc, state, input, partitions) {
         Ok(out) => Ok(out),
@@ -184,6 +194,7 @@ fn split_by_key(
     ensures output { IfOk result (λ output. IsQuadSplit key.now partitions input.now output.items) }
     ensures bad_line { IfErr result
         (λ fault. (k : ℕ) → fault ≡ BadLine k → IsFirstMalformed (lines input.now) k) }
+    ensures no_query { IfErr result (λ fault. is_of_query fault ≡ true → ⊥) }
 {
     match split_quads(alloc, state, input, key, partitions) {
         Ok(out) => Ok(out),
@@ -195,6 +206,7 @@ fn split_by_key(
 fn unsealed_text(alloc: Global, input: &[u8]) -> Result<Vec<u8>, PartFault>
     ensures output { IfOk result (λ output. IsUnsealed input.now output.items) }
     ensures no_line { IfErr result (λ fault. (k : ℕ) → fault ≡ BadLine k → ⊥) }
+    ensures no_query { IfErr result (λ fault. is_of_query fault ≡ true → ⊥) }
 {
     let text = unsealed(alloc, input)?;
     Ok(text)
@@ -204,6 +216,7 @@ fn unsealed_text(alloc: Global, input: &[u8]) -> Result<Vec<u8>, PartFault>
 fn firsts(alloc: Global, state: RandomState, input: &[u8]) -> Result<Vec<u8>, PartFault>
     ensures output { IfOk result (λ output. IsFirstOf input.now output.items) }
     ensures no_line { IfErr result (λ fault. (k : ℕ) → fault ≡ BadLine k → ⊥) }
+    ensures no_query { IfErr result (λ fault. is_of_query fault ≡ true → ⊥) }
 {
     match first_terms(alloc, state, input) {
         Ok(out) => Ok(out),
@@ -215,6 +228,7 @@ fn firsts(alloc: Global, state: RandomState, input: &[u8]) -> Result<Vec<u8>, Pa
 fn kept(alloc: Global, input: &[u8]) -> Result<Vec<u8>, PartFault>
     ensures output { IfOk result (λ output. IsKeptOf input.now output.items) }
     ensures no_line { IfErr result (λ fault. (k : ℕ) → fault ≡ BadLine k → ⊥) }
+    ensures no_query { IfErr result (λ fault. is_of_query fault ≡ true → ⊥) }
 {
     match keep_terms(alloc, input) {
         Ok(out) => Ok(out),
@@ -280,6 +294,7 @@ fn plan_text(alloc: Global, plan: &PartsPlan) -> Result<Vec<u8>, AllocError>
 fn planned(alloc: Global, input: &[u8], split: &Split) -> Result<Vec<u8>, PartFault>
     ensures output { IfOk result (λ output. IsPlanned split.now input.now output.items) }
     ensures no_line { IfErr result (λ fault. (k : ℕ) → fault ≡ BadLine k → ⊥) }
+    ensures refused { IfErr result (λ fault. is_of_query fault ≡ true → IsUnplanned split.now input.now fault) }
 {
     let Ok(text) = str::from_utf8(input) else {
         return Err(PartFault::Query);
@@ -298,6 +313,7 @@ fn merged(alloc: Global, input: &[u8], merging: &Merging) -> Result<Vec<u8>, Par
     ensures output { IfOk result (λ output.
         IsMerged merging.now.distinct merging.now.offset merging.now.limit input.now output.items) }
     ensures no_line { IfErr result (λ fault. (k : ℕ) → fault ≡ BadLine k → ⊥) }
+    ensures no_query { IfErr result (λ fault. is_of_query fault ≡ true → ⊥) }
 {
     match merge(
         alloc,
@@ -335,6 +351,8 @@ pub fn compose(
     ensures output { IfOk result (λ output. IsOutput command.now input.now output.items) }
     ensures bad_line { IfErr result
         (λ fault. (k : ℕ) → fault ≡ BadLine k → IsBadInput command.now input.now k) }
+    ensures refused { IfErr result
+        (λ fault. is_of_query fault ≡ true → IsRefusedInput command.now input.now fault) }
 {
     match command {
         Command::SplitCheck(partitions) => split(alloc, state, input, *partitions),

@@ -1,6 +1,7 @@
 //! Why a command was not done.
-ghost use Rattle.std.specs.Prelude.{◌≡◌, ℕ};
+ghost use Rattle.std.specs.Prelude.{◌≡◌, ℕ, true};
 ghost use Rattle.nquads_core.specs.declared.fault.PieceFault.TheVariants as piece;
+ghost use Rattle.part_core.specs.Refused.{fault_of, is_of_query};
 ghost use Rattle.part_core.specs.declared.fault.PartFault.TheVariants.{BadLine};
 
 use cluster_parts::SealFault;
@@ -39,6 +40,7 @@ impl PartFault {
     /// Returns the fault of a block or a document, under the same name.
     pub(crate) fn of_piece(fault: PieceFault) -> PartFault
         ensures bad_line { (k : ℕ) → result ≡ BadLine k → fault ≡ piece.BadLine k }
+        ensures no_query { is_of_query result ≡ true → ⊥ }
     {
         match fault {
             PieceFault::BadLine(line) => PartFault::BadLine(line),
@@ -49,6 +51,7 @@ impl PartFault {
     /// Returns the fault of a sealed text, under the same name.
     pub(crate) fn of_seal(fault: SealFault) -> PartFault
         ensures no_line { (k : ℕ) → result ≡ BadLine k → ⊥ }
+        ensures no_query { is_of_query result ≡ true → ⊥ }
     {
         match fault {
             SealFault::Version => PartFault::Version,
@@ -60,6 +63,7 @@ impl PartFault {
     /// Returns the fault of a plan. That of a condition is `Split`.
     pub(crate) fn of_plan(fault: PlanFault) -> PartFault
         ensures no_line { (k : ℕ) → result ≡ BadLine k → ⊥ }
+        ensures value { result ≡ fault_of fault }
     {
         match fault {
             PlanFault::Query => PartFault::Query,
@@ -73,6 +77,7 @@ impl PartFault {
     /// Returns the fault of results that cannot be merged, under the same name.
     pub(crate) fn of_merge(fault: MergeFault) -> PartFault
         ensures no_line { (k : ℕ) → result ≡ BadLine k → ⊥ }
+        ensures no_query { is_of_query result ≡ true → ⊥ }
     {
         match fault {
             MergeFault::Damaged => PartFault::Damaged,
@@ -83,6 +88,7 @@ impl PartFault {
     /// Returns the fault of a reader, under the same name.
     pub(crate) fn of_read(fault: ReadFault) -> PartFault
         ensures no_line { (k : ℕ) → result ≡ BadLine k → ⊥ }
+        ensures no_query { is_of_query result ≡ true → ⊥ }
     {
         match fault {
             ReadFault::Read => PartFault::Read,

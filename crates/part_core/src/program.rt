@@ -1,8 +1,9 @@
 //! A command over a reader and a writer.
-ghost use Rattle.std.specs.Prelude.{◌≡◌, ℕ, IfErr, IfOk, OnOk};
+ghost use Rattle.std.specs.Prelude.{◌≡◌, ℕ, true, IfErr, IfOk, OnOk};
 ghost use Rattle.std.specs.Io.KnownBytes.{Appends, Consumes, IsAtEnd};
 ghost use Rattle.part_core.specs.Output.{HasPartitions};
-ghost use Rattle.part_core.specs.Run.{IsBadLine, IsDone};
+ghost use Rattle.part_core.specs.Refused.{is_of_query};
+ghost use Rattle.part_core.specs.Run.{IsBadLine, IsDone, IsRefused};
 ghost use Rattle.part_core.specs.declared.fault.PartFault.TheVariants.{BadLine};
 
 use crate::command::Command;
@@ -17,6 +18,7 @@ fn read_input<S: Source>(alloc: Global, reader: &mut S) -> Result<Vec<u8>, PartF
     ensures bytes { IfOk result (λ input. Consumes (S.left reader.old) (S.left reader.new) input.items) }
     ensures at_end { OnOk result (IsAtEnd (S.left reader.new)) }
     ensures no_line { IfErr result (λ fault. (k : ℕ) → fault ≡ BadLine k → ⊥) }
+    ensures no_query { IfErr result (λ fault. is_of_query fault ≡ true → ⊥) }
 {
     match read_to_end(alloc, reader) {
         Ok(input) => Ok(input),
@@ -28,6 +30,7 @@ fn read_input<S: Source>(alloc: Global, reader: &mut S) -> Result<Vec<u8>, PartF
 fn write_output<K: Sink>(writer: &mut K, output: &[u8]) -> Result<(), PartFault>
     ensures written { OnOk result (Appends (K.held writer.old) (K.held writer.new) output.now) }
     ensures no_line { IfErr result (λ fault. (k : ℕ) → fault ≡ BadLine k → ⊥) }
+    ensures no_query { IfErr result (λ fault. is_of_query fault ≡ true → ⊥) }
 {
     match write_all(writer, output) {
         Ok(()) => Ok(()),
@@ -57,6 +60,8 @@ pub fn run<S: Source, K: Sink>(
         (K.held writer.old) (K.held writer.new)) }
     ensures bad_line { IfErr result (λ fault. (k : ℕ) → fault ≡ BadLine k
         → IsBadLine command.now (S.left reader.old) (S.left reader.new) k) }
+    ensures refused { IfErr result (λ fault. is_of_query fault ≡ true
+        → IsRefused command.now (S.left reader.old) (S.left reader.new) fault) }
 {
     let input = read_input(alloc, reader)?;
     let output = match compose(alloc, state, command, input.as_slice()) {

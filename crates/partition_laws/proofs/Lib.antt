@@ -1,1 +1,2 @@
 pub mod PartitionLaws
+pub mod ChosenLaws

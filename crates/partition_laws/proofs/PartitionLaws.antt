@@ -5,7 +5,6 @@ use Rattle.std.specs.Cmp.{both_ways}
 use Rattle.std.specs.List.{list_any}
 use Rattle.std.specs.Option.{option_eq}
 use Rattle.std.proofs.lemmas.Bool.{cases_Bool, eqb-true, false≢true, or_cases}
-use Rattle.std.proofs.lemmas.List.Elements.{filter-append}
 use Rattle.std.proofs.lemmas.List.Folds.{list_any-append}
 use Rattle.std.proofs.lemmas.Nat.{mod_below}
 use Rattle.rdf_core.specs.declared.term.Term.{Term}
@@ -24,11 +23,11 @@ use Rattle.cluster_parts.specs.Hash.{graph_key, subject_key, term_hash}
 use Rattle.cluster_parts.specs.Parts.{has_key, quads_in}
 use Rattle.cluster_parts.proofs.SetCounts.{any-filter_is}
 use Rattle.query_split.specs.declared.split.Split.TheVariants as by
-use Rattle.query_split.specs.Parts.{AreApart, AreParts, HaveOneName}
+use Rattle.query_split.specs.Parts.{AreParts, HaveOneName}
 use Rattle.query_split.proofs.OperatorSplits as each
 use Rattle.query_split.proofs.PatternSplits.{triple_decides}
 use Rattle.query_split.proofs.SplitLaws.{graph-append}
-use Rattle.partition_laws.specs.Partitions.{graph_part, parts_of, subject_part, GraphsAreParts, SubjectsAreParts}
+use Rattle.partition_laws.specs.Partitions.{graph_part, name_part, parts_of, subject_part, GraphsAreParts, NamesAreParts, SubjectsAreParts}
 
 right_true : (a b : Bool) → b ≡ true → (a || b) ≡ true
 right_true true b e = refl
@@ -244,6 +243,15 @@ graphs_apart count D n (suc m) = (
 left_or : (a b : Bool) → a ≡ true → (a || b) ≡ true
 left_or a b e = ap (λ c. c || b) e
 
+-- a quad of a part is one of the dataset
+graph_sub : (count : ℕ) (D : List QuadParts) (x : QuadParts) (n : ℕ) → list_any (same_parts x) (graph_part count D n) ≡ true → list_any (same_parts x) D ≡ true
+graph_sub count D x n e =
+    let U = filter (λ q. is_none (graph_key q)) D in
+    ⊎_elim
+    (λ g. and_right (is_none (graph_key x)) (list_any (same_parts x) D) (sym (any-filter_is same_parts parts_decides (λ q. is_none (graph_key q)) x D) ∙ g))
+    (λ g. and_right (has_key count n (graph_key x)) (list_any (same_parts x) D) (sym (any-filter_is same_parts parts_decides (λ q. has_key count n (graph_key q)) x D) ∙ g))
+    (or_cases (list_any (same_parts x) U) (list_any (same_parts x) (quads_in graph_key count n D)) (sym (list_any-append (same_parts x) U (quads_in graph_key count n D)) ∙ e))
+
 pub graphs_are_parts : GraphsAreParts
 graphs_are_parts partitions D =
     let count = suc partitions in
@@ -254,10 +262,7 @@ graphs_are_parts partitions D =
     let split = λ (x : QuadParts) (n : ℕ). list_any-append (same_parts x) U (quads_in graph_key count n D) in (
       graphs_apart count D 0 partitions,
       all_there f D count
-          (λ x n e. ⊎_elim
-          (λ g. and_right (is_none (graph_key x)) (list_any (same_parts x) D) (sym (isU x) ∙ g))
-          (λ g. and_right (has_key count n (graph_key x)) (list_any (same_parts x) D) (sym (is x n) ∙ g))
-          (or_cases (list_any (same_parts x) U) (list_any (same_parts x) (quads_in graph_key count n D)) (sym (split x n) ∙ e)))
+          (graph_sub count D)
           (λ x e. cover x e count (omega arith) (isU x) (is x) (split x) (graph_key x) refl),
     )
   where
@@ -271,3 +276,51 @@ graphs_are_parts partitions D =
     cover x e count some isU is split (Some h) f =
         let j = h % count in
         (j, mod_below h count some, split j ∙ right_true _ _ (is j ∙ (λ i. has_key count j (f i) && e i) ∙ ap (λ b. b && true) (eq-eqb j j refl)))
+
+-- ---- by graph, with the default graph in the first partition alone
+
+name_live : (count : ℕ) (D : List QuadParts) (n : ℕ) → Each (LivesAt graph_key count n) (name_part count D n)
+name_live count D zero = graph_live count D 0
+name_live count D (suc n) = in_partition graph_key count (suc n) D
+
+names_apart : (count : ℕ) (D : List QuadParts) (n m : ℕ) → AreParts by.Graph (name_part count D n) (parts_of (name_part count D) (suc n) m)
+names_apart count D n zero = tt
+names_apart count D n (suc m) =
+    (apart_from graph_key count (name_part count D) (name_live count D) HaveOneName (same_name count) n (suc m), names_apart count D (suc n) m)
+
+-- a quad of a part is one of the part with the whole default graph
+name_sub : (count : ℕ) (D : List QuadParts) (x : QuadParts) (n : ℕ) → list_any (same_parts x) (name_part count D n) ≡ true → list_any (same_parts x) (graph_part count D n) ≡ true
+name_sub count D x zero e = e
+name_sub count D x (suc n) e =
+    list_any-append (same_parts x) (filter (λ q. is_none (graph_key q)) D) (quads_in graph_key count (suc n) D) ∙ right_true _ _ e
+
+-- a quad of a partition is one of its part
+name_has : (count : ℕ) (D : List QuadParts) (x : QuadParts) (n : ℕ) → list_any (same_parts x) (quads_in graph_key count n D) ≡ true → list_any (same_parts x) (name_part count D n) ≡ true
+name_has count D x zero e =
+    list_any-append (same_parts x) (filter (λ q. is_none (graph_key q)) D) (quads_in graph_key count 0 D) ∙ right_true _ _ e
+name_has count D x (suc n) e = e
+
+name_cover : (count : ℕ) (D : List QuadParts) (x : QuadParts) → 0 < count → list_any (same_parts x) D ≡ true → (o : Option ℕ) → graph_key x ≡ o
+    → (j : ℕ) × (j < count) × (list_any (same_parts x) (name_part count D j) ≡ true)
+name_cover count D x some e None f = (
+  0,
+  some,
+  list_any-append (same_parts x) (filter (λ q. is_none (graph_key q)) D) (quads_in graph_key count 0 D)
+      ∙ left_or _ _ (any-filter_is same_parts parts_decides (λ q. is_none (graph_key q)) x D ∙ (λ i. is_none (f i) && e i)),
+)
+name_cover count D x some e (Some h) f =
+    let j = h % count in (
+      j,
+      mod_below h count some,
+      name_has count D x j
+          (any-filter_is same_parts parts_decides (λ q. has_key count j (graph_key q)) x D ∙ (λ i. has_key count j (f i) && e i) ∙ ap (λ b. b && true) (eq-eqb j j refl)),
+    )
+
+pub names_are_parts : NamesAreParts
+names_are_parts partitions D =
+    let count = suc partitions in (
+      names_apart count D 0 partitions,
+      all_there (name_part count D) D count
+          (λ x n e. graph_sub count D x n (name_sub count D x n e))
+          (λ x e. name_cover count D x (omega arith) e (graph_key x) refl),
+    )

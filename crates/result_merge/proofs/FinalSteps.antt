@@ -1,17 +1,18 @@
 -- What was read and is written, as results.
-use Rattle.std.proofs.Common.{◌≡◌, ℕ, zero, suc, ◌+◌, Bool, subst, List, [], ◌∷◌, ◌++◌, length, take, drop, map, flat_map, get_or, Option, None, Some, codes, refl, sym, ap, ◌∙◌, append_assoc}
+use Rattle.std.proofs.Common.{◌≡◌, ℕ, zero, suc, Bool, subst, List, [], ◌∷◌, ◌++◌, length, take, drop, map, flat_map, get_or, Option, None, Some, codes, refl, sym, ap, ◌∙◌, append_assoc}
 use Rattle.std.proofs.lemmas.List.{take-map, drop-map, map-append}
 use Rattle.rdf_core.specs.declared.term.Term.{Term}
 use Rattle.algebra_model.specs.Pieces.{joined}
 use Rattle.algebra_model.specs.Renaming.{Each}
 use Rattle.algebra_model.specs.RowOrder.{cells_cmp}
-use Rattle.algebra_model.specs.Sorted.{limited, slice, sorted_list}
+use Rattle.algebra_model.specs.Sorted.{slice, sorted_list}
 use Rattle.result_json.specs.Results.{Column, columns, json, member_text, members, row_text, separated, string_text, term_text}
-use Rattle.result_json.specs.Texts.{begun, begun_column, begun_member, head_text}
+use Rattle.result_json.specs.Texts.{begun, begun_member, head_text}
 use Rattle.result_json.proofs.JsonLaws.{json_is}
-use Rattle.row_merge.specs.Merged.{Row, Table, kept}
-use Rattle.result_merge.specs.Merging.{AreWide, IsMerged}
+use Rattle.row_merge.specs.Merged.{Row, kept}
+use Rattle.result_merge.specs.Merging.{AreTagged, AreWide, IsMerged}
 use Rattle.result_merge.specs.Reading.{AreColumns, CodeColumn, HasText, IsRead, ReadRow, document_text, row_members, rows_of, text_of, texts_of}
+use Rattle.result_merge.specs.Tags.{HasTagType}
 
 member_is : (name : List ℕ) (o : Option Term) → begun_member (string_text name ++ 58 ∷ []) o ≡ member_text name o
 member_is name None = refl
@@ -50,6 +51,14 @@ documents_are vars made head e h (t ∷ tables) k =
 pub tables_wide : (vars : List (List ℕ)) (made : List CodeColumn) (tables : List (List ReadRow)) → Each (Each (IsRead (length vars) made)) tables → AreWide vars (map rows_of tables)
 tables_wide vars made [] h = tt
 tables_wide vars made (t ∷ tables) h = (read_wide (length vars) made t h.0, tables_wide vars made tables h.1)
+
+read_tagged : (width : ℕ) (made : List CodeColumn) (table : List ReadRow) → Each (IsRead width made) table → Each (Each HasTagType) (rows_of table)
+read_tagged width made [] h = tt
+read_tagged width made (r ∷ table) h = (h.0.2, read_tagged width made table h.1)
+
+tables_tagged : (width : ℕ) (made : List CodeColumn) (tables : List (List ReadRow)) → Each (Each (IsRead width made)) tables → AreTagged (map rows_of tables)
+tables_tagged width made [] h = tt
+tables_tagged width made (t ∷ tables) h = (read_tagged width made t h.0, tables_tagged width made tables h.1)
 
 Each-joined : (made : List CodeColumn) (xs ys : List ReadRow) → Each (HasText (text_of made)) xs → Each (HasText (text_of made)) ys → Each (HasText (text_of made)) (xs ++ ys)
 Each-joined made [] ys h k = k
@@ -97,6 +106,7 @@ is_merged once offset limit vars made head input output read ordered left is col
       vars = vars;
       tables = map rows_of ts;
       wide = tables_wide vars made ts tables.2;
+      tagged = tables_tagged (length vars) made ts tables.2;
       read = tables.3 ∙ documents_are vars made head is columns ts tables.2;
       written = text ∙ ap (document_text head) part ∙ document_is vars made head is columns (slice offset limit ordered) (texts_sliced (text_of made) offset limit ordered o.1)
           ∙ ap (json vars) (rows_sliced offset limit ordered ∙ ap (slice offset limit) (o.0 ∙ ap (λ r. sorted_list cells_cmp (kept once r)) rows));

@@ -3,3 +3,7 @@ pub mod LoopSteps
 pub mod PlaceLaws
 pub mod MergeSteps
 pub mod FinalSteps
+pub mod StringLaws
+pub mod TermTextLaws
+pub mod TableLaws
+pub mod UniqueLaws

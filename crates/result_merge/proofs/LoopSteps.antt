@@ -1,5 +1,5 @@
 -- One more name, row or document that is read.
-use Rattle.std.proofs.Common.{◌≡◌, ℕ, ◌+◌, ◌<◌, Bool, true, List, [], ◌∷◌, ◌++◌, length, map, flat_map, codes, refl, sym, ap, subst, ◌∙◌, arith, append_assoc, append-nil, length-append}
+use Rattle.std.proofs.Common.{◌≡◌, ℕ, ◌<◌, Bool, true, List, [], ◌∷◌, ◌++◌, length, map, flat_map, codes, sym, ap, ◌∙◌, arith, append_assoc, append-nil, length-append}
 use Rattle.std.proofs.lemmas.List.{map-append}
 use Rattle.std.proofs.lemmas.List.Concat.{flat_map-append}
 use Rattle.algebra_model.specs.Pieces.{joined}
@@ -7,7 +7,7 @@ use Rattle.algebra_model.specs.Renaming.{Each}
 use Rattle.result_json.specs.Results.{separated, string_text}
 use Rattle.result_json.specs.Texts.{begun_column, head_text}
 use Rattle.result_json.proofs.SeparatedLaws.{is_cons}
-use Rattle.result_merge.specs.Reading.{CodeColumn, IsRead, ReadRow, comma, document_text, row_members, text_of, texts_of}
+use Rattle.result_merge.specs.Reading.{CodeColumn, IsRead, ReadRow, comma, document_text, row_members, texts_of}
 use Rattle.result_merge.proofs.ReadSteps.{in_frame, one_more, some_after}
 
 Each-one : {X : Type 0} (P : X → Type 0) (xs : List X) (x : X) → Each P xs → P x → Each P (xs ++ x ∷ [])

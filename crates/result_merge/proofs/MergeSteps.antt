@@ -6,10 +6,9 @@ use Rattle.std.specs.Option.{option_cmp, option_eq}
 use Rattle.std.proofs.lemmas.List.Filters.{dedup_is}
 use Rattle.std.specs.Ordering.{ordering_then}
 use Rattle.std.specs.Cmp.Lexicographic.{pointwise, slice_cmp}
-use Rattle.std.proofs.lemmas.Bool.{cases_Bool, false≢true}
+use Rattle.std.proofs.lemmas.Bool.{false≢true}
 use Rattle.std.proofs.lemmas.List.{get_or-map, length-map}
 use Rattle.std.proofs.lemmas.List.Sorted.{IsPermutation-map, IsPermutation-sym}
-use Rattle.rdf_core.specs.declared.term.Term.{Term}
 use Rattle.rdf_core.proofs.TermLaws.{term_eq, term_decides}
 use Rattle.algebra_model.specs.Operators.{distinct}
 use Rattle.algebra_model.specs.Renaming.{Each}
@@ -17,7 +16,6 @@ use Rattle.algebra_model.specs.RowOrder.{cells_cmp}
 use Rattle.algebra_model.specs.Solution.{same_solution}
 use Rattle.algebra_model.specs.Sorted.{IsRising, sorted_list}
 use Rattle.algebra_model.proofs.BgpLaws.{solution_decides}
-use Rattle.algebra_model.proofs.RangeLaws.{Each-IsSameBag}
 use Rattle.algebra_model.proofs.RepeatLaws.{without_repeats-IsPermutation}
 use Rattle.algebra_model.proofs.RowOrderLaws.{cells_cmp_total, cells_equal, derived, derived-is}
 use Rattle.algebra_model.proofs.SortedLaws.{rises_from_sort, sorted_is, sorted_of_bag, sorted_permutation, sorted_rises}

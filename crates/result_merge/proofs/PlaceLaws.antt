@@ -24,7 +24,7 @@ columns_equal : (x y : Column) → column_cmp x y ≡ Equal → x ≡ y
 columns_equal x y e = let a = then_equal _ _ e in λ i. (exact_bytes x.0 y.0 a.0 i, ranked x.1 y.1 Equal (sym a.1) i)
 
 -- the places of columns
-abbrev places : List Column → List ℕ
+abbrev pub places : List Column → List ℕ
 places cs = map (λ c. c.1) cs
 
 not_before : (j k : ℕ) (xs : List (List ℕ)) → j < k → list_any (nat_eq j) (places (numbered k xs)) ≡ false
@@ -41,9 +41,12 @@ numbered_below : (k n : ℕ) (xs : List (List ℕ)) → k + length xs ≡ n → 
 numbered_below k n [] h = tt
 numbered_below k n (x ∷ xs) h = (omega (arith, h), numbered_below (suc k) n xs (omega (arith, h)))
 
-bag : (vars : List (List ℕ)) → IsPermutation (places (numbered 0 vars)) (places (columns vars))
+pub columns_bag : (vars : List (List ℕ)) → IsPermutation (numbered 0 vars) (columns vars)
 unfolding columns
-bag vars = IsPermutation-map (λ (c : Column). c.1) (numbered 0 vars) (columns vars) (sorted_permutation column_cmp column_cmp_total columns_equal (numbered 0 vars))
+columns_bag vars = sorted_permutation column_cmp column_cmp_total columns_equal (numbered 0 vars)
+
+pub bag : (vars : List (List ℕ)) → IsPermutation (places (numbered 0 vars)) (places (columns vars))
+bag vars = IsPermutation-map (λ (c : Column). c.1) (numbered 0 vars) (columns vars) (columns_bag vars)
 
 code_places : (made : List CodeColumn) → places (map begun_column made) ≡ map (λ c. c.1) made
 code_places [] = refl

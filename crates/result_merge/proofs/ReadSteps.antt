@@ -95,6 +95,12 @@ place_below (c ∷ made) (suc i) width d h l = place_below made i width d h.1 (o
 pub place_fits : (made : List CodeColumn) (i width : ℕ) (column : CodeColumn) → HavePlaces width made → i < length made → column ≡ get_or made i column → column.1 < width
 place_fits made i width column h l e = subst (λ (c : CodeColumn). c.1 < width) (sym e) (place_below made i width column h.1 l)
 
+-- with another cell
+pub Each-set : {X : Type 0} (P : X → Type 0) (xs : List X) (i : ℕ) (x : X) → Each P xs → P x → Each P (set xs i x)
+Each-set P [] i x h k = tt
+Each-set P (y ∷ xs) zero x h k = (k, h.1)
+Each-set P (y ∷ xs) (suc i) x h k = (h.0, Each-set P xs i x h.1 k)
+
 -- with one more column
 pub row_more : (made : List CodeColumn) (width i : ℕ) (column : CodeColumn) (cells : Row) (cell : Option Term) (bytes rest after : List ℕ) (later later' : Bool)
     → HavePlaces width made → length cells ≡ width → i < length made → column ≡ get_or made i column

@@ -1,2 +1,4 @@
+pub mod Tags
 pub mod Reading
 pub mod Merging
+pub mod Laws

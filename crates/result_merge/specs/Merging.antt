@@ -3,15 +3,21 @@ use Rattle.std.specs.Prelude.{◌≡◌, ℕ, Bool, List, length, Option, flat_m
 use Rattle.algebra_model.specs.Renaming.{Each}
 use Rattle.result_json.specs.Results.{json}
 use Rattle.row_merge.specs.Merged.{Row, Table, merged}
+use Rattle.result_merge.specs.Tags.{HasTagType}
 
 -- each row has a cell for each variable
 abbrev pub AreWide : List (List ℕ) → List Table → Type 0
 AreWide vars tables = Each (Each (λ (row : Row). length row ≡ length vars)) tables
+
+-- each literal with a language tag has the datatype of such literals
+abbrev pub AreTagged : List Table → Type 0
+AreTagged tables = Each (Each (Each HasTagType)) tables
 
 -- The input is the results of parts, one after the other, and the output is the result of their merged rows.
 pub record IsMerged (once : Bool) (offset : ℕ) (limit : Option ℕ) (input output : List ℕ) : Type 0 where
   pub vars : List (List ℕ)
   pub tables : List Table
   pub wide : AreWide vars tables
+  pub tagged : AreTagged tables
   pub read : input ≡ flat_map (json vars) tables
   pub written : output ≡ json vars (merged once offset limit tables)

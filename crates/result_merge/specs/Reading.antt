@@ -1,13 +1,14 @@
 -- How results are read. Only private clauses use these definitions.
-use Rattle.std.specs.Prelude.{◌≡◌, ℕ, ◌<◌, Bool, true, false, nat_eq, List, [], ◌∷◌, ◌++◌, length, map, flat_map, get_or, codes, Option, None, Vec}
+use Rattle.std.specs.Prelude.{◌≡◌, ℕ, ◌<◌, Bool, nat_eq, List, [], ◌∷◌, ◌++◌, length, map, flat_map, get_or, codes, Option, None, Vec}
 use Rattle.std.specs.Borrow.{Bor}
 use Rattle.std.specs.declared.alloc.Global.{Global}
 use Rattle.rdf_core.specs.declared.term.Term.{Term}
 use Rattle.algebra_model.specs.Bag.{IsWithoutRepeats}
 use Rattle.algebra_model.specs.Renaming.{Each}
-use Rattle.result_json.specs.Results.{Column, columns, row_text, separated}
+use Rattle.result_json.specs.Results.{Column, columns, separated}
 use Rattle.result_json.specs.Texts.{begun, begun_column, begun_member, comma_texts}
 use Rattle.row_merge.specs.Merged.{Row}
+use Rattle.result_merge.specs.Tags.{HasTagType}
 
 -- what precedes the lexical form of a literal of xsd:string, or of one with a language tag
 abbrev pub literal_start : List ℕ
@@ -41,9 +42,9 @@ text_of made row = codes "{" ++ (separated (row_members row (map begun_column ma
 abbrev pub ReadRow : Type 0
 ReadRow = Vec (Option Term) Global × Bor (List ℕ)
 
--- the text is that of the cells, of which there are this many
+-- the text is that of the cells, of which there are this many, and their literals have the right datatype
 abbrev pub IsRead : ℕ → List CodeColumn → ReadRow → Type 0
-IsRead width made r = (length r.0.items ≡ width) × (r.1.now ≡ text_of made r.0.items)
+IsRead width made r = (length r.0.items ≡ width) × (r.1.now ≡ text_of made r.0.items) × Each HasTagType r.0.items
 
 -- the cells of rows
 abbrev pub rows_of : List ReadRow → List Row

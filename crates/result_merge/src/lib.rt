@@ -4,6 +4,7 @@
 mod columns;
 mod documents;
 mod fault;
+pub mod laws;
 mod merging;
 mod rows;
 mod strings;

@@ -1,7 +1,9 @@
 //! Rows, as `spq select` prints them (SPARQL 1.1 Query Results JSON Format, section 3.2.1).
 ghost use Rattle.std.specs.Prelude.{◌≡◌, ◌<◌, ◌||◌, ◌++◌, codes, is_some, length, set, IfOk, IfSome};
 ghost use Rattle.result_json.specs.Texts.{begun_member, comma_texts};
+ghost use Rattle.algebra_model.specs.Renaming.{Each};
 ghost use Rattle.result_merge.specs.Reading.{HavePlaces, IsRead, comma, text_of};
+ghost use Rattle.result_merge.specs.Tags.{HasTagType};
 
 use crate::fault::MergeFault;
 use crate::strings::{after, split_before, stripped};
@@ -47,6 +49,7 @@ fn read_value<'a>(
     requires begun { bytes.now ≡ comma later ++ (prefix.now ++ value.now) }
     ensures parts { IfOk result
         (λ r. bytes.now ≡ comma_texts later (begun_member prefix.now r.0) ++ r.1.now) }
+    ensures tagged { IfOk result (λ r. HasTagType r.0) }
 {
     let (term, end) = read_term(alloc, value)?;
     Ok((Some(term), end))
@@ -61,6 +64,7 @@ fn read_member<'a>(
 ) -> Result<(Option<Term>, &'a [u8]), MergeFault>
     ensures parts { IfOk result
         (λ r. bytes.now ≡ comma_texts later (begun_member prefix.now r.0) ++ r.1.now) }
+    ensures tagged { IfOk result (λ r. HasTagType r.0) }
 {
     match member_start(bytes, later, prefix) {
         Some(value) => read_value(alloc, bytes, later, prefix, value),
@@ -71,6 +75,7 @@ fn read_member<'a>(
 /// Returns a row in which nothing is bound.
 fn unbound(alloc: Global, width: usize) -> Result<Vec<Option<Term>>, AllocError>
     ensures cells { IfOk result (λ cells. length cells.items ≡ width) }
+    ensures tagged { IfOk result (λ cells. Each HasTagType cells.items) }
 {
     let mut cells = Vec::with_capacity(alloc, width)?;
     for _place in 0..width {
@@ -103,6 +108,7 @@ fn read_cells<'a>(
 ) -> Result<(Vec<Option<Term>>, &'a [u8]), MergeFault>
     requires places { HavePlaces width columns.now }
     ensures width { IfOk result (λ r. length r.0.items ≡ width) }
+    ensures tagged { IfOk result (λ r. Each HasTagType r.0.items) }
     ensures parts { IfOk result (λ r. bytes.now ≡ text_of columns.now r.0.items ++ r.1.now) }
 {
     let mut cells = unbound(alloc, width)?;

@@ -1,7 +1,8 @@
 //! Terms, as `spq select` prints them (SPARQL 1.1 Query Results JSON Format, section 3.2.2).
-ghost use Rattle.std.specs.Prelude.{◌≡◌, ◌++◌, codes, IfOk};
+ghost use Rattle.std.specs.Prelude.{◌≡◌, ◌++◌, codes, Some, IfOk};
 ghost use Rattle.result_json.specs.Results.{string_text, term_text};
 ghost use Rattle.result_merge.specs.Reading.{literal_start};
+ghost use Rattle.result_merge.specs.Tags.{HasTagType};
 
 use crate::fault::MergeFault;
 use crate::strings::{after, read_string, stripped};
@@ -25,6 +26,7 @@ fn read_text<'a>(
 /// Reads a blank node.
 fn read_blank<'a>(alloc: Global, bytes: &'a [u8]) -> Result<(Term, &'a [u8]), MergeFault>
     ensures parts { IfOk result (λ r. bytes.now ≡ term_text r.0 ++ r.1.now) }
+    ensures tagged { IfOk result (λ r. HasTagType (Some r.0)) }
 {
     let (label, closing) = read_text(alloc, bytes, b"{\"type\":\"bnode\",\"value\":")?;
     let end = after(closing, b"}")?;
@@ -34,6 +36,7 @@ fn read_blank<'a>(alloc: Global, bytes: &'a [u8]) -> Result<(Term, &'a [u8]), Me
 /// Reads an IRI.
 fn read_iri<'a>(alloc: Global, bytes: &'a [u8]) -> Result<(Term, &'a [u8]), MergeFault>
     ensures parts { IfOk result (λ r. bytes.now ≡ term_text r.0 ++ r.1.now) }
+    ensures tagged { IfOk result (λ r. HasTagType (Some r.0)) }
 {
     let (text, closing) = read_text(alloc, bytes, b"{\"type\":\"uri\",\"value\":")?;
     let end = after(closing, b"}")?;
@@ -49,6 +52,7 @@ fn read_tagged<'a>(
 ) -> Result<(Term, &'a [u8]), MergeFault>
     requires read { bytes.now ≡ literal_start ++ (string_text lexical ++ rest.now) }
     ensures parts { IfOk result (λ r. bytes.now ≡ term_text r.0 ++ r.1.now) }
+    ensures tagged { IfOk result (λ r. HasTagType (Some r.0)) }
 {
     let (tag, closing) = read_text(alloc, rest, b",\"xml:lang\":")?;
     let end = after(closing, b"}")?;
@@ -66,6 +70,7 @@ fn read_tagged<'a>(
 /// Returns a literal of xsd:string.
 fn plain_literal(alloc: Global, lexical: Text) -> Result<Term, MergeFault>
     ensures text { IfOk result (λ term. term_text term ≡ literal_start ++ (string_text lexical ++ codes "}")) }
+    ensures tagged { IfOk result (λ term. HasTagType (Some term)) }
 {
     let datatype = Text::from_string(String::from_str(alloc, XSD_STRING)?);
     Ok(Term::Literal {
@@ -86,6 +91,7 @@ fn read_untagged<'a>(
     requires read { bytes.now ≡ literal_start ++ (string_text lexical ++ rest.now) }
     requires closed { rest.now ≡ codes "}" ++ end.now }
     ensures parts { IfOk result (λ r. bytes.now ≡ term_text r.0 ++ r.1.now) }
+    ensures tagged { IfOk result (λ r. HasTagType (Some r.0)) }
 {
     let term = plain_literal(alloc, lexical)?;
     Ok((term, end))
@@ -94,6 +100,7 @@ fn read_untagged<'a>(
 /// Reads a literal of xsd:string, or one with a language tag.
 fn read_literal<'a>(alloc: Global, bytes: &'a [u8]) -> Result<(Term, &'a [u8]), MergeFault>
     ensures parts { IfOk result (λ r. bytes.now ≡ term_text r.0 ++ r.1.now) }
+    ensures tagged { IfOk result (λ r. HasTagType (Some r.0)) }
 {
     let (lexical, rest) = read_text(alloc, bytes, b"{\"type\":\"literal\",\"value\":")?;
     match stripped(rest, b"}") {
@@ -105,6 +112,7 @@ fn read_literal<'a>(alloc: Global, bytes: &'a [u8]) -> Result<(Term, &'a [u8]), 
 /// Reads a literal of another datatype.
 fn read_typed<'a>(alloc: Global, bytes: &'a [u8]) -> Result<(Term, &'a [u8]), MergeFault>
     ensures parts { IfOk result (λ r. bytes.now ≡ term_text r.0 ++ r.1.now) }
+    ensures tagged { IfOk result (λ r. HasTagType (Some r.0)) }
 {
     let (datatype, rest) = read_text(alloc, bytes, b"{\"datatype\":")?;
     let (lexical, closing) = read_text(alloc, rest, b",\"type\":\"literal\",\"value\":")?;
@@ -129,6 +137,7 @@ fn read_typed<'a>(alloc: Global, bytes: &'a [u8]) -> Result<(Term, &'a [u8]), Me
 /// - `Memory` if an allocation fails.
 pub(crate) fn read_term<'a>(alloc: Global, bytes: &'a [u8]) -> Result<(Term, &'a [u8]), MergeFault>
     ensures parts { IfOk result (λ r. bytes.now ≡ term_text r.0 ++ r.1.now) }
+    ensures tagged { IfOk result (λ r. HasTagType (Some r.0)) }
 {
     if bytes.starts_with(b"{\"type\":\"literal\",\"value\":") {
         read_literal(alloc, bytes)

@@ -9,4 +9,5 @@ returns c = record {
   parts = typed_read c.args.bytes.now c.in_ok-datatype.datatype c.in_ok-lexical.lexical c.in_ok-datatype.rest.now c.in_ok-lexical.closing.now c.in_ok-end.end.now
       c.in_ok-datatype.ensures.parts c.in_ok-lexical.ensures.parts c.in_ok-end.ensures.parts
       (ap (λ d. bytes_eq d xsd_string) (sym c.as_str.ensures.value) ∙ sym c.eq.ensures ∙ c.if-eq.false);
+  tagged = tt;
 }
