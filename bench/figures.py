@@ -223,7 +223,7 @@ PHRASES = {
     "select-memory": lambda: memory_range("select"),
     "check-memory": lambda: memory_range("check"),
     "install-minutes": lambda: minutes("install minutes"),
-    "gate-minutes": lambda: minutes("gate minutes"),
+    "gate-minutes": lambda: f"about {results()['proof']['gate processor minutes']} processor minutes",
     "serdi-memory": lambda: report.peak(loads()[SERDI]) + " MiB",
     "rapper-memory": lambda: report.peak(loads()[OTHERS["rapper"]]) + " MiB",
     "document-size": lambda: megabytes(largest("loading")[0]),
