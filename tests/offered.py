@@ -24,7 +24,6 @@ EXEMPT = {
     "spq_report::Console::show": (MESSAGES, CLAUSE), "spq_report::Console::watch": (MESSAGES, CLAUSE),
     "spq_report::Console::end": (MESSAGES, CLAUSE), "spq_report::Console::is_watched": (MESSAGES, CLAUSE),
     "spq_report::Console::is_first_told": (f"{MESSAGES}; tests/messages.py compares them", CLAUSE, TEST),
-    "term_values::equality_key": ("laws are about what it returns, and no call needs it yet", TEST),
     "expression_errors::ErrorCounts::new": (COUNTS, CLAUSE, MUTANT), "expression_errors::ErrorCounts::place": (COUNTS, CLAUSE),
     "expression_errors::Place::note_partial": (COUNTS, CLAUSE, MUTANT), "expression_errors::Place::note_unseen": (COUNTS, CLAUSE, MUTANT),
     "expression_errors::Place::none": (COUNTS, MUTANT), "expression_errors::digest_of": (COUNTS, CLAUSE),

@@ -40,17 +40,6 @@ impl Model for LocalPiece {
 }
 
 impl LocalPiece {
-    /// Creates a piece of quads that are numbered by this dictionary.
-    ///
-    /// # Requires
-    /// The dictionary has the terms of the quads by first appearance, and no other (`IsNumbered`).
-    pub fn new(dict: Dict, quads: Vec<NumQuad>) -> LocalPiece
-        requires numbered { IsNumbered (quads_at dict quads.items) dict quads.items }
-        ensures quads { result ≡ quads_at dict quads.items }
-    {
-        LocalPiece { dict, quads }
-    }
-
     /// Returns the dictionary of the piece.
     pub fn dict(&self) -> &Dict
         ensures terms { result.now ≡ first_appearances (terms_of self.now) }

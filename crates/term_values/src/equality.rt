@@ -7,14 +7,13 @@ ghost use Rattle.std.specs.Prelude.{◌≡◌, ◌+◌, ◌*◌, ◌<◌, ◌≤
 ghost use Rattle.std.specs.Char.{is_ascii_digit};
 ghost use Rattle.std.specs.List.{list_all};
 ghost use Rattle.std.specs.Str.Parse.{digits_value_after};
-ghost use Rattle.term_values.specs.EqualityKey.{EqualTermsHaveOneKey, KeysAreOfForms, equality_key, form_key, modulus, number_key, size_key, tenth, value_key};
+ghost use Rattle.term_values.specs.EqualityKey.{EqualTermsHaveOneKey, KeysAreOfForms, form_key, modulus, number_key, size_key, tenth, value_key};
 ghost use Rattle.term_values.specs.NumberShown.{number_shown};
 ghost use Rattle.term_values.specs.ValueShown.{value_shown};
 
 use crate::digits::Digits;
-use crate::literal::{LiteralValue, boolean_value, number_or_other, value_of};
+use crate::literal::{LiteralValue, boolean_value, number_or_other};
 use crate::number::decimal_digits;
-use rdf_core::Term;
 
 /// The largest prime number below 2^60 that ends in 9.
 const MODULUS: u64 = 1_152_921_504_606_846_869;
@@ -22,19 +21,9 @@ const MODULUS: u64 = 1_152_921_504_606_846_869;
 /// The residue of one tenth: ten times it is 1 more than the modulus.
 const TENTH: u64 = 115_292_150_460_684_687;
 
-/// Returns the key of a term. The key of a number is its residue modulo a prime below 2^60, and
-/// that of a boolean is 0 or 1. Other terms have none: they are equal only to themselves.
-///
-/// Terms that are equal by `=` have the same key (see [`equal_terms_have_one_key`]). Different
-/// terms may have it too.
-pub fn equality_key(term: &Term) -> Option<u64>
-    ensures key { result ≡ equality_key term.now }
-{
-    value_key(&value_of(term))
-}
-
 /// Returns the key of the decimal number or the boolean with this lexical form, or None if it is the
-/// form of neither. The form of an integer is also that of a decimal. So a literal that has a key has
+/// form of neither. The key of a number is its residue modulo a prime below 2^60, and that of a boolean
+/// is 0 or 1. Different values may have one key. The form of an integer is also that of a decimal. So a literal that has a key has
 /// the key of its form (see [`keys_are_of_forms`]).
 pub fn form_key(form: &str) -> Option<u64>
     ensures key { result ≡ form_key form.now }

@@ -8,8 +8,8 @@
 //! A [`Valued`] is a term together with its value, and [`compare_valued`] compares two of them. They
 //! save work if one term is compared with many others, as in IN.
 //!
-//! [`equality_key`] and [`form_key`] return numbers by which terms that may be equal are found. A law
-//! says that equal terms have one key, another that the key of a literal is that of its form.
+//! [`form_key`] returns a number by which literals that may be equal are found. A law says that equal
+//! terms have one key, another that the key of a literal is that of its form.
 //!
 //! The crate expression_values evaluates expressions with these functions, and reexports [`compare`]
 //! and [`truth`].
@@ -37,5 +37,5 @@ mod number;
 mod valued;
 
 pub use comparison::{compare, compare_valued, truth};
-pub use equality::{equal_terms_have_one_key, equality_key, form_key, keys_are_of_forms};
+pub use equality::{equal_terms_have_one_key, form_key, keys_are_of_forms};
 pub use valued::Valued;

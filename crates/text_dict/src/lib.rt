@@ -17,4 +17,3 @@ mod text_dict;
 mod texts;
 
 pub use text_dict::TextDict;
-pub use texts::Texts;
