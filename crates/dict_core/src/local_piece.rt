@@ -3,7 +3,7 @@ ghost use Rattle.std.specs.Prelude.{◌≡◌, ◌≤◌, [], map, length, vec_l
 ghost use Rattle.indexmap.specs.IndexSet.{insert_key, insert_all};
 ghost use Rattle.rdf_core.specs.Equality.{term_eq};
 ghost use Rattle.rdf_core.specs.QuadParts.{parts_of};
-ghost use Rattle.dict_core.specs.NumQuad.{quad_at, quads_at, IsBelow, AreBelow};
+ghost use Rattle.dict_core.specs.NumQuad.{quad_at, IsBelow, AreBelow};
 ghost use Rattle.dict_core.specs.Appearances.{terms_of_quad, terms_of, first_appearances};
 ghost use Rattle.dict_core.specs.Numbered.{IsNumbered};
 

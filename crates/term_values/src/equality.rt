@@ -23,8 +23,10 @@ const TENTH: u64 = 115_292_150_460_684_687;
 
 /// Returns the key of the decimal number or the boolean with this lexical form, or None if it is the
 /// form of neither. The key of a number is its residue modulo a prime below 2^60, and that of a boolean
-/// is 0 or 1. Different values may have one key. The form of an integer is also that of a decimal. So a literal that has a key has
-/// the key of its form (see [`keys_are_of_forms`]).
+/// is 0 or 1. Different values may have one key.
+///
+/// The form of an integer is also that of a decimal. So a literal that has a key has the key of its
+/// form (see [`keys_are_of_forms`]).
 pub fn form_key(form: &str) -> Option<u64>
     ensures key { result ≡ form_key form.now }
 {
