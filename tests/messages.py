@@ -332,7 +332,7 @@ def queries():
     yield query("a deep query", "SELECT * " + "{" * 101 + "}" * 101, "error: query depth", None)
     yield query("many operands", "SELECT * { FILTER(" + "?a=1&&" * 15000 + ") }", "error: query syntax", None)
     yield failed("a byte order mark before a query", ["select", "--query", "\ufeffSELECT * {}"], b"x\n", 2, "error: query syntax", None,
-                 has="spq: query, line 1, column 1: ", ends="hint: the query begins with a byte order mark; save the file as UTF-8 without one\n")
+                 has="spq: query, line 1, column 1: ", ends="hint: remove this byte order mark (save the file as UTF-8 without one)\n")
 
 
 def command_lines():

@@ -126,7 +126,7 @@ const EMPTY_QUERY: &str =
     "the query is empty: with --query \"$(cat FILE)\", check that FILE exists";
 
 const BYTE_ORDER_MARK: &str =
-    "the query begins with a byte order mark; save the file as UTF-8 without one";
+    "remove this byte order mark (save the file as UTF-8 without one)";
 
 const DECLARE: &str = "declare it before SELECT, as in PREFIX ex: <http://example.org/>";
 
