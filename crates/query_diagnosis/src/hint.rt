@@ -125,8 +125,7 @@ const PARENTHESES: &str = "put the condition in parentheses, as in FILTER (!BOUN
 const EMPTY_QUERY: &str =
     "the query is empty: with --query \"$(cat FILE)\", check that FILE exists";
 
-const BYTE_ORDER_MARK: &str =
-    "remove this byte order mark (save the file as UTF-8 without one)";
+const BYTE_ORDER_MARK: &str = "remove this byte order mark (save the file as UTF-8 without one)";
 
 const DECLARE: &str = "declare it before SELECT, as in PREFIX ex: <http://example.org/>";
 
