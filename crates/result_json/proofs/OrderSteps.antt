@@ -1,12 +1,12 @@
 -- Whether terms are in order, from pairs of neighbours.
-use Rattle.std.proofs.Common.{◌≡◌, ℕ, zero, suc, ◌+◌, ◌*◌, ◌<◌, ◌≤◌, false, List, Bool, true, length, get_or, All, IsSorted, is_lt, sym, ap, ◌∙◌, subst, arith, ⊎_elim}
+use Rattle.std.proofs.Common.{◌≡◌, ℕ, zero, suc, ◌+◌, ◌*◌, ◌<◌, ◌≤◌, false, List, Bool, true, length, get_or, All, IsSorted, is_lt, refl, sym, ap, ◌∙◌, subst, arith, ⊎_elim}
 use Rattle.std.specs.Int.{div_ceil}
 use Rattle.std.proofs.Math.Nat.{suc-mul, zero-mul}
 use Rattle.std.proofs.lemmas.Bool.{cases_lt}
-use Rattle.std.proofs.lemmas.Grind.{div_ceil_times}
 use Rattle.std.proofs.lemmas.List.{get_or-map}
 use Rattle.rdf_core.specs.declared.term.Term.{Term}
 use Rattle.rdf_core.specs.Order.{term_cmp}
+use Rattle.row_pieces.proofs.PieceLaws.{enough}
 use Rattle.result_json.specs.Ranks.{Entry, terms_of, IsPieceInOrder, IsRisingPart}
 
 -- one more pair is in order
@@ -39,7 +39,6 @@ piece_at size k (suc n) l =
 pub pieces-rise : (terms : List Term) (size count number : ℕ) (found : List Bool) → 0 < size → length terms ≤ count + 1 → number ≡ div_ceil count size → length found ≡ number
     → ((i : ℕ) (d : Bool) → i < number → get_or found i d ≡ true → IsPieceInOrder size i terms) → All (λ value. value ≡ true) found → IsSorted term_cmp terms
 pieces-rise terms size count number found p c n b each all k d low high =
-    let enough : count ≤ div_ceil count size * size = (div_ceil_times count size p).0 in
-    let enough' : count ≤ number * size = subst (λ (x : ℕ). count ≤ x * size) (sym n) enough in
+    let all_in : count ≤ number * size = enough count count size number number p refl n refl in
     let at = piece_at size k number (omega arith) in
     each at.0 true at.1 (all at.0 true (subst (λ (x : ℕ). at.0 < x) (sym b) at.1)) k d at.2 at.3 high

@@ -1,7 +1,6 @@
 -- Rows of ranks are packed and unpacked one by one.
-use Rattle.std.proofs.Common.{◌≡◌, ℕ, zero, suc, ◌+◌, ◌-◌, ◌*◌, ◌<◌, ◌≤◌, List, [], ◌∷◌, ◌++◌, length, get_or, take, drop, map, flat_map, min, slice_get, Option, None, Some, All, refl, sym, ap, ◌∙◌, arith, add-one, append_assoc, ⊎_elim}
-use Rattle.std.proofs.lemmas.Bool.{cases_lt}
-use Rattle.std.proofs.lemmas.List.{length-map, length-take, length-drop, map-append, take-map, take_all, take_more, take_at, drop_all, drop_at, get_or-drop}
+use Rattle.std.proofs.Common.{◌≡◌, ℕ, zero, suc, ◌+◌, ◌-◌, ◌*◌, ◌<◌, ◌≤◌, List, [], ◌∷◌, ◌++◌, length, get_or, take, drop, map, flat_map, min, slice_get, Option, None, Some, All, refl, sym, ap, ◌∙◌, arith, add-one, append_assoc}
+use Rattle.std.proofs.lemmas.List.{length-map, length-take, length-drop, map-append, take-map, take_more, take_at, drop_at, get_or-drop}
 use Rattle.std.proofs.lemmas.Option.{get_or_from_slice_get, slice_get_read, slice_get_within}
 use Rattle.rdf_core.specs.declared.term.Term.{Term}
 use Rattle.algebra_model.specs.Renaming.{Each}
@@ -10,6 +9,7 @@ use Rattle.algebra_model.specs.Solution.{Solution}
 use Rattle.algebra_model.specs.Sorted.{slice}
 use Rattle.row_core.specs.RowList.{rows_in}
 use Rattle.row_pieces.specs.Pieces.{piece_of}
+use Rattle.row_pieces.proofs.PieceLaws.{piece-between}
 use Rattle.result_json.specs.declared.ranked_row.RankedRow.{RankedRow}
 use Rattle.result_json.specs.Packed.{fitted, rank_in}
 use Rattle.result_json.specs.RankedRows.{ranks_of}
@@ -95,19 +95,6 @@ rows_unpacked w (r ∷ rows) h =
     let rest = flat_map (map rank_in) rows in
     λ i. take_at (map rank_in r) rest w l i ∷ (ap (rows_in w w (length rows)) (drop_at (map rank_in r) rest w l) ∙ rows_unpacked w rows h.1) i
 
-same_drop : {X : Type 0} (m n : ℕ) (xs : List X) → min m (length xs) ≡ min n (length xs) → drop m xs ≡ drop n xs
-same_drop m n xs e =
-    ⊎_elim (λ (a : m < length xs). ap (λ k. drop k xs) (omega arith)) (λ (a : length xs ≤ m). drop_all m xs a ∙ sym (drop_all n xs (omega arith))) (cases_lt m (length xs))
-
-same_take : {X : Type 0} (m n : ℕ) (xs : List X) → min m (length xs) ≡ min n (length xs) → take m xs ≡ take n xs
-same_take m n xs e =
-    ⊎_elim (λ (a : m < length xs). ap (λ k. take k xs) (omega arith)) (λ (a : length xs ≤ m). take_all m xs a ∙ sym (take_all n xs (omega arith))) (cases_lt m (length xs))
-
-piece_is : {X : Type 0} (xs : List X) (size m count from to : ℕ) → count ≡ length xs → from ≡ min m count → to ≡ min (from + size) count → take (to - from) (drop from xs) ≡ take size (drop m xs)
-piece_is xs size m count from to c f t =
-    let l = length-drop from xs in
-    same_take (to - from) size (drop from xs) (omega arith) ∙ ap (take size) (same_drop from m xs (omega arith))
-
 -- the unpacked rows of a piece
 pub piece_unpacked : (w size i count from to : ℕ) (rows : List (List (Option ℕ))) (flat : List ℕ) → All (λ r. length r ≡ w) rows → count ≡ length rows → from ≡ min (i * size) count
     → to ≡ min (from + size) count → flat ≡ flat_map (map rank_in) (take (to - from) (drop from rows)) → rows_in w w (to - from) flat ≡ piece_of size i (map (map rank_in) rows)
@@ -115,7 +102,7 @@ piece_unpacked w size i count from to rows flat wide c f t e =
     let part = take (to - from) (drop from rows) in
     let each = Each-take (λ (r : List (Option ℕ)). length r ≡ w) (to - from) (drop from rows) (Each-drop (λ (r : List (Option ℕ)). length r ≡ w) from rows (Each-from_all (λ (r : List (Option ℕ)). length r ≡ w) rows wide)) in
     let long : length part ≡ to - from = omega (arith, length-take (to - from) (drop from rows), length-drop from rows) in
-    ap (λ k. rows_in w w k flat) (sym long) ∙ ap (rows_in w w (length part)) e ∙ rows_unpacked w part each ∙ ap (map (map rank_in)) (piece_is rows size (i * size) count from to c f t)
+    ap (λ k. rows_in w w k flat) (sym long) ∙ ap (rows_in w w (length part)) e ∙ rows_unpacked w part each ∙ ap (map (map rank_in)) (piece-between size i count from to rows c f t)
     ∙ sym (ap (take size) (drop-map (map rank_in) (i * size) rows) ∙ take-map (map rank_in) size (drop (i * size) rows))
 
 -- ---- the width of rows

@@ -2,13 +2,12 @@
 use Rattle.std.proofs.Common.{◌≡◌, ℕ, zero, suc, ◌*◌, ◌<◌, ◌≤◌, ◌==◌, Bool, true, false, not, List, [], ◌∷◌, ◌++◌, Vec, Global, length, take, drop, map, flat_map, refl, sym, ap, ◌∙◌, subst, arith}
 use Rattle.std.specs.Int.{div_ceil}
 use Rattle.std.specs.List.{slice_index_or}
-use Rattle.std.proofs.Math.Nat.{suc-mul, zero-mul}
-use Rattle.std.proofs.lemmas.Grind.{div_ceil_times}
-use Rattle.std.proofs.lemmas.List.{drop-drop, length-drop, length-map, length-take, map-append, take-append-drop}
+use Rattle.std.proofs.lemmas.List.{length-drop, length-map, length-take, map-append, take-append-drop}
 use Rattle.std.proofs.lemmas.Bool.{ne_eqb}
 use Rattle.std.proofs.lemmas.List.Concat.{flat_map-append}
 use Rattle.rdf_core.specs.declared.term.Term.{Term}
 use Rattle.row_pieces.specs.Pieces.{piece_of}
+use Rattle.row_pieces.proofs.PieceLaws.{after-first, enough, first-piece, next-piece, no-pieces}
 use Rattle.result_json.specs.Results.{joined_blocks, separated}
 use Rattle.result_json.specs.Texts.{begun_column, begun_row, comma_texts, piece_text, rank_texts}
 use Rattle.result_json.proofs.SeparatedLaws.{comma_texts-append}
@@ -54,19 +53,15 @@ module _ (terms : List Term) (columns : List (Vec ℕ Global × ℕ)) (size : �
       → ((i : ℕ) (d : Vec ℕ Global) → i < length blocks → (slice_index_or blocks i d).items ≡ comma_texts (comma_at later i) (texts (piece_of size i rows)))
       → length rows ≤ length blocks * size → joined_blocks blocks ≡ comma_texts later (texts rows)
   pieces later [] rows p each h =
-      let z = zero-mul size in
-      sym (ap (λ (rs : List (List ℕ)). comma_texts later (texts rs)) (none rows (omega arith)) ∙ no_texts later)
+      sym (ap (λ (rs : List (List ℕ)). comma_texts later (texts rs)) (no-pieces size rows h) ∙ no_texts later)
   pieces later (b ∷ bs) rows p each h =
-      let m = suc-mul (length bs) size in
       let l = length-drop size rows in
       let front = take size rows in
       let following = drop size rows in
-      let z : drop (0 * size) rows ≡ rows = ap (λ k. drop k rows) (zero-mul size) in
-      let first : b.items ≡ comma_texts later (texts front) = each 0 b (omega arith) ∙ ap (λ (rs : List (List ℕ)). comma_texts later (texts (take size rs))) z in
-      let next : (i : ℕ) → piece_of size (suc i) rows ≡ piece_of size i following =
-      λ i. ap (take size) (ap (λ k. drop k rows) (let e = suc-mul i size in omega arith) ∙ sym (drop-drop (i * size) size rows)) in
+      let first : b.items ≡ comma_texts later (texts front) = each 0 b (omega arith) ∙ ap (λ (rs : List (List ℕ)). comma_texts later (texts rs)) (first-piece size rows) in
       let rest : joined_blocks bs ≡ comma_texts true (texts following) = pieces true bs following p
-      (λ i d low. each (suc i) d (omega arith) ∙ ap (λ (rs : List (List ℕ)). comma_texts true (texts rs)) (next i) ∙ ap (λ (b : Bool). comma_texts b (texts (piece_of size i following))) (sym (comma_at-true i))) (omega arith) in
+      (λ i d low. each (suc i) d (omega arith) ∙ ap (λ (rs : List (List ℕ)). comma_texts true (texts rs)) (next-piece size rows i) ∙ ap (λ (b : Bool). comma_texts b (texts (piece_of size i following))) (sym (comma_at-true i)))
+      (after-first size (length bs) rows h) in
       let nothing : length (texts front) ≤ 0 → texts following ≡ [] =
       λ e. ap texts (none following (omega (arith, e, texts-length front, length-take size rows, l))) in
       (λ i. first i ++ rest i) ∙ sym (in_two later (texts front) (texts following) nothing) ∙ ap (comma_texts later) (sym (texts-append front following) ∙ ap texts (take-append-drop size rows))
@@ -76,6 +71,5 @@ module _ (terms : List Term) (columns : List (Vec ℕ Global × ℕ)) (size : �
       → ((i : ℕ) (d : Vec ℕ Global) → i < number → (slice_index_or blocks i d).items ≡ piece_text terms columns rows size i)
       → joined_blocks blocks ≡ separated (texts rows)
   pieces-joined count number blocks rows p c n b each =
-      let enough : count ≤ div_ceil count size * size = (div_ceil_times count size p).0 in
       pieces false blocks rows p (λ i d low. each i d (subst (λ (x : ℕ). i < x) b low) ∙ ap (λ (later : Bool). comma_texts later (texts (piece_of size i rows))) (comma_at-false i))
-      (subst (λ (x : ℕ). length rows ≤ x * size) (sym (b ∙ n)) (subst (λ (x : ℕ). x ≤ div_ceil count size * size) c enough))
+      (enough count (length rows) size number (length blocks) p c n b)

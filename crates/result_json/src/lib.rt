@@ -22,12 +22,13 @@
 //! - Workers append rows in pieces, each piece into one block whose size is computed before. The
 //!   texts of several rows are looked up before the first of them is copied.
 //!
-//! Reading order: `printing`, `coding` (cells as numbers), `ranking` (numbers as ranks), `presort`
-//! (terms sorted by keys, in parallel), `order_check` (whether they are in order), `pair_order` (rows
-//! of two ranks), `ranked_row` and `row_order`, `packed_rows` (sorted rows in less memory), `values`
-//! (texts as JSON strings, and terms as objects), `term_texts`, `text_pieces` (terms printed in
-//! parallel), `columns`, `prefetch` (texts of several rows at once), `row_texts`, `row_blocks` (rows in
-//! parallel), `results`. Tests: `evaluation::json` of the crate query_tests.
+//! Reading order: `printing`, `coding` (cells as numbers), `ranking` (numbers as ranks), `pieces`
+//! (of a list, for workers), `presort` (terms sorted by keys, in parallel), `order_check` (whether
+//! they are in order), `pair_order` (rows of two ranks), `ranked_row` and `row_order`,
+//! `packed_rows` (sorted rows in less memory), `values` (texts as JSON strings, and terms as
+//! objects), `term_texts`, `text_pieces` (terms printed in parallel), `columns`, `prefetch` (texts
+//! of several rows at once), `row_texts`, `row_blocks` (rows in parallel), `results`. Tests:
+//! `evaluation::json` of the crate query_tests.
 //!
 //! Example: one variable `o` and the rows `"x"` and `<http://e/a>` give
 //! `{"head":{"vars":["o"]},"results":{"bindings":[{"o":{"type":"uri","value":"http://e/a"}},{"o":{"type":"literal","value":"x"}}]}}`
@@ -41,6 +42,7 @@ mod columns;
 mod order_check;
 mod packed_rows;
 mod pair_order;
+mod pieces;
 mod prefetch;
 mod presort;
 mod printing;

@@ -8,9 +8,10 @@ ghost use Rattle.row_pieces.specs.How.{HasOneWorker, IsRunnable};
 ghost use Rattle.row_pieces.specs.declared.fault.EvalFault.TheVariants.{Memory};
 ghost use Rattle.result_json.specs.Ranks.{terms_of, IsPieceInOrder, IsRisingPart};
 
+use crate::pieces::worker_piece_size;
 use piece_pool::{Job, JobFault, OpenGate, Outcome, run_all};
 use rdf_core::Term;
-use row_pieces::{EvalFault, How, piece_size};
+use row_pieces::{EvalFault, How, piece_ends};
 use std::alloc::Global;
 use std::sync::Wait;
 use std::thread::Threads;
@@ -62,8 +63,7 @@ fn is_piece_in_order(entries: &[(&Term, u64)], size: usize, number: u64) -> bool
     ensures order { result ≡ true → IsPieceInOrder size number (terms_of entries.now) }
 {
     let count = entries.len().saturating_sub(1);
-    let from = (number as usize).saturating_mul(size).min(count);
-    let to = from.saturating_add(size).min(count);
+    let (from, to) = piece_ends(count, size, number);
     is_rising(entries, from, to)
 }
 
@@ -100,7 +100,7 @@ pub(crate) fn is_in_order<R: Threads + Wait>(
     ensures one_worker { HasOneWorker how.now → IfErr result (λ fault. fault ≡ Memory) }
 {
     let count = entries.len().saturating_sub(1);
-    let size = piece_size(count, how.rows.max(count.div_ceil(how.workers)));
+    let size = worker_piece_size(count, how);
     let pieces = count.div_ceil(size) as u64;
     let job = Neighbours { entries, size };
     match run_all(rt, alloc, how.workers, pieces, &job, &OpenGate)? {

@@ -3,7 +3,7 @@
 //! While rows are sorted, a rank takes 8 bytes, and a row 32 bytes more. Printing needs them until all
 //! blocks are printed. So the sorted rows are packed: `Rows` holds a rank in 4 bytes, or in more if
 //! one is too large. A piece of them is unpacked when it is printed.
-ghost use Rattle.std.specs.Prelude.{◌≡◌, ◌≤◌, ◌+◌, ◌-◌, ◌*◌, ◌++◌, None, Some, drop, flat_map, get_or, length, map, min, take, IfOk, OnOk};
+ghost use Rattle.std.specs.Prelude.{◌≡◌, ◌≤◌, ◌-◌, ◌++◌, None, Some, drop, flat_map, get_or, length, map, take, IfOk, OnOk};
 ghost use Rattle.result_json.specs.Packed.{fitted, rank_in, ranks_in};
 ghost use Rattle.result_json.specs.RankedRows.{ranks_of};
 
@@ -71,16 +71,6 @@ fn put_ranks(ranks: &mut Vec<u64>, cells: &[Option<u64>]) -> Result<(), AllocErr
         ranks.push(rank_in(*cell))?;
     }
     Ok(())
-}
-
-/// Returns where a piece of `size` rows begins and ends among `count` rows.
-pub(crate) fn piece_ends(count: usize, size: usize, number: u64) -> (usize, usize)
-    ensures begin { result.0 ≡ min (number * size) count }
-    ensures end { result.1 ≡ min (result.0 + size) count }
-{
-    let from = (number as usize).saturating_mul(size).min(count);
-    let to = from.saturating_add(size).min(count);
-    (from, to)
 }
 
 /// Returns the ranks of the packed rows from one place up to another, row after row.

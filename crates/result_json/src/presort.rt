@@ -11,10 +11,10 @@ ghost use Rattle.row_pieces.specs.How.{HasOneWorker, IsRunnable};
 ghost use Rattle.row_pieces.specs.declared.fault.EvalFault.TheVariants.{Memory};
 ghost use Rattle.result_json.specs.Keyed.{entries_of, joined_entries};
 
-use crate::row_blocks::piece;
+use crate::pieces::{piece, worker_piece_size};
 use piece_pool::{Job, JobFault, OpenGate, Outcome, run_all};
 use rdf_core::Term;
-use row_pieces::{EvalFault, How, piece_size};
+use row_pieces::{EvalFault, How};
 use std::alloc::{AllocError, Global};
 use std::sync::Wait;
 use std::thread::Threads;
@@ -205,7 +205,7 @@ fn sorted_pieces<'t, R: Threads + Wait>(
     ensures one_worker { HasOneWorker how.now → IfErr result (λ fault. fault ≡ Memory) }
 {
     let count = entries.len();
-    let size = piece_size(count, how.rows.max(count.div_ceil(how.workers)));
+    let size = worker_piece_size(count, how);
     let pieces = count.div_ceil(size) as u64;
     let job = KeyedPieces {
         entries,

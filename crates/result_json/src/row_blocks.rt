@@ -4,20 +4,19 @@
 //! unpacks the rows of a block before it prints them.
 ghost use Rattle.std.specs.Prelude.{◌≡◌, IfErr, IfOk};
 ghost use Rattle.row_pieces.specs.How.{HasOneWorker, IsRunnable};
-ghost use Rattle.row_pieces.specs.Pieces.{piece_of};
 ghost use Rattle.row_pieces.specs.declared.fault.EvalFault.TheVariants.{Memory};
 ghost use Rattle.result_json.specs.Packed.{ranks_in};
 ghost use Rattle.result_json.specs.Results.{joined_blocks, separated};
 ghost use Rattle.result_json.specs.Texts.{comma_texts, piece_text, rank_texts, row_texts};
 
-use crate::packed_rows::{piece_ends, unpacked};
+use crate::packed_rows::unpacked;
 use crate::ranked_row::RankedRow;
 use crate::row_order::split_rows;
 use crate::row_texts::put_rows;
 use crate::text_pieces::TextPieces;
 use piece_pool::{Gate, Job, JobFault, Outcome, run_all};
 use row_core::Rows;
-use row_pieces::{EvalFault, How, piece_size};
+use row_pieces::{EvalFault, How, piece_ends, piece_size};
 use std::alloc::{AllocError, Global};
 use std::sync::Wait;
 use std::thread::Threads;
@@ -52,16 +51,6 @@ impl<'a, 't> Job for RowBlocks<'a, 't> {
     }
 
     ghost exclusive = { λ job i out fault _ absurd. absurd };
-}
-
-/// Returns the elements of a piece of `size` elements.
-pub(crate) fn piece<T>(elements: &[T], size: usize, number: u64) -> &[T]
-    ensures value { result.now ≡ piece_of size number elements.now }
-{
-    let count = elements.len();
-    let from = (number as usize).saturating_mul(size).min(count);
-    let to = from.saturating_add(size).min(count);
-    &elements[from..to]
 }
 
 /// Returns the largest number of bytes that a row takes, with a comma before the row and after each
@@ -117,8 +106,7 @@ fn numbered_block(
         (λ block. block.items ≡ piece_text texts.now columns.now (ranks_in rows.now) size number) }
 {
     let width = rows.width();
-    let count = rows.len();
-    let (from, to) = piece_ends(count, size, number);
+    let (from, to) = piece_ends(rows.len(), size, number);
     let ranks = unpacked(alloc, rows, from, to)?;
     let piece = split_rows(alloc, &ranks, width, to - from)?;
     block(alloc, columns, texts, &piece, number != 0)

@@ -9,11 +9,11 @@ ghost use Rattle.row_pieces.specs.declared.fault.EvalFault.TheVariants.{Memory};
 ghost use Rattle.result_json.specs.Ranks.{ranked_cell, terms_of};
 ghost use Rattle.result_json.specs.Results.{term_text};
 
-use crate::row_blocks::piece;
+use crate::pieces::{piece, worker_piece_size};
 use crate::term_texts::TermTexts;
 use piece_pool::{Job, JobFault, OpenGate, Outcome, run_all};
 use rdf_core::Term;
-use row_pieces::{EvalFault, How, piece_size};
+use row_pieces::{EvalFault, How};
 use std::alloc::{AllocError, Global};
 use std::marker::Model;
 use std::sync::Wait;
@@ -154,7 +154,7 @@ impl<'a> TextPieces<'a> {
         ensures one_worker { HasOneWorker how.now → IfErr result (λ fault. fault ≡ Memory) }
     {
         let count = terms.len();
-        let size = piece_size(count, how.rows.max(count.div_ceil(how.workers)));
+        let size = worker_piece_size(count, how);
         let number = count.div_ceil(size) as u64;
         let job = ShownPieces { terms, shown, size };
         match run_all(rt, alloc, how.workers, number, &job, &OpenGate)? {

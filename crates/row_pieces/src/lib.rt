@@ -29,4 +29,4 @@ mod pieces;
 pub use context::Context;
 pub use fault::EvalFault;
 pub use how::How;
-pub use pieces::{RowWork, over_pieces, piece_size};
+pub use pieces::{RowWork, over_pieces, piece_ends, piece_size};

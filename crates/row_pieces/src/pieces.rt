@@ -1,7 +1,7 @@
 //! Operators over pieces of a list. Each element gives rows by itself, however the list is split.
 ghost use Rattle.std.specs.Int.{div_ceil};
 ghost use Rattle.std.specs.List.{flat_map};
-ghost use Rattle.std.specs.Prelude.{◌≡◌, ◌≤◌, ℕ, List, length, IfOk, IfErr, All, take, drop, ◌-◌};
+ghost use Rattle.std.specs.Prelude.{◌≡◌, ◌≤◌, ◌+◌, ◌*◌, ◌-◌, ℕ, List, length, min, IfOk, IfErr, All, take, drop};
 ghost use Rattle.piece_pool.specs.Limits.{most_pieces};
 ghost use Rattle.algebra_model.specs.Solution.{Solution};
 ghost use Rattle.row_pieces.specs.How.{IsRunnable, HasOneWorker};
@@ -64,9 +64,7 @@ impl<'w, W: RowWork> Job for RowPieces<'w, W> {
     ghost faults = { λ _ _ _. ⊥ };
 
     fn run(&self, alloc: Global, i: u64) -> Result<Rows, JobFault<()>> {
-        let count = self.work.count();
-        let from = (i as usize).saturating_mul(self.size).min(count);
-        let to = from.saturating_add(self.size).min(count);
+        let (from, to) = piece_ends(self.work.count(), self.size, i);
         Ok(self.work.run(alloc, from, to)?)
     }
 
@@ -119,6 +117,17 @@ pub fn piece_size(count: usize, rows: usize) -> usize
     ensures least { rows ≤ result }
 {
     if count > 1 << 62 { rows.max(4) } else { rows }
+}
+
+/// Returns where piece `number` of a list begins and ends. The list has `count` elements, and a piece
+/// has `size`. Both places are `count` for a piece after the last.
+pub fn piece_ends(count: usize, size: usize, number: u64) -> (usize, usize)
+    ensures begin { result.0 ≡ min (number * size) count }
+    ensures end { result.1 ≡ min (result.0 + size) count }
+{
+    let from = (number as usize).saturating_mul(size).min(count);
+    let to = from.saturating_add(size).min(count);
+    (from, to)
 }
 
 /// Concatenates lists of rows of the same width.

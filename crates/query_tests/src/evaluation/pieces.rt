@@ -1,11 +1,12 @@
-//! The number of elements in a piece, the names of faults, and jobs of zero, one and more pieces.
+//! The number of elements in a piece, where it begins and ends, the names of faults, and jobs of zero,
+//! one and more pieces.
 //! The tests of the operators run `over_pieces`.
 ghost use Rattle.std.specs.Prelude.{◌≤◌};
 ghost use Rattle.piece_pool.specs.Limits.{most_pieces, most_workers};
 
 use crate::evaluation::cells::gives;
 use piece_pool::{Outcome, PoolFault, run_all};
-use row_pieces::{EvalFault, piece_size};
+use row_pieces::{EvalFault, piece_ends, piece_size};
 use std::alloc::{AllocError, Global};
 use std::process::Abort;
 use std::sync::Wait;
@@ -35,6 +36,32 @@ fn check_sizes<R: Abort>(rt: &R) {
 #[test]
 fn a_piece_has_what_was_asked_for(rt: HostRuntime) {
     check_sizes(&rt);
+}
+
+/// A number of elements, the size of a piece, its number, and where it begins and ends.
+const ENDS: [(usize, usize, u64, (usize, usize)); 5] = [
+    (10, 4, 0, (0, 4)),
+    (10, 4, 2, (8, 10)),
+    (10, 4, 3, (10, 10)),
+    (0, 1, 0, (0, 0)),
+    (usize::MAX, 1 << 62, 4, (usize::MAX, usize::MAX)),
+];
+
+/// Checks where each piece begins and ends.
+fn check_ends<R: Abort>(rt: &R) {
+    for (elements, size, piece, expected) in &ENDS {
+        let found = piece_ends(*elements, *size, *piece);
+        assert!(rt;
+            found == *expected,
+            "piece {piece} of {elements} by {size}: expected {expected:?}, found {found:?}"
+        );
+    }
+}
+
+/// A piece begins where the one before it ends, and ends with the list at the latest.
+#[test]
+fn a_piece_has_its_ends(rt: HostRuntime) {
+    check_ends(&rt);
 }
 
 #[test]

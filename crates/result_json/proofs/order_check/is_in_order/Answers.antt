@@ -10,4 +10,4 @@ returns-clause-rising g c sorted =
     let entries = c.args.entries.now in
     let count : length (terms_of entries) ≡ length entries = length-map entries (λ (e : Entry). e.0.now) in
     let each_true : All (λ value. value ≡ true) c.in-All.found.items = subst (λ (values : List Bool). All (λ value. value ≡ true) values) c.deref.ensures.value (c.all_true.ensures.all sorted) in
-    pieces-rise (terms_of entries) c.piece_size-size.result c.saturating_sub-count.result c.div_ceil-pieces.result c.in-All.found.items c.piece_size-size.ensures.some (omega (arith, count, c.saturating_sub-count.ensures)) c.div_ceil-pieces.ensures all.count all.each each_true
+    pieces-rise (terms_of entries) c.worker_piece_size-size.result c.saturating_sub-count.result c.div_ceil-pieces.result c.in-All.found.items c.worker_piece_size-size.ensures.some (omega (arith, count, c.saturating_sub-count.ensures)) c.div_ceil-pieces.ensures all.count all.each each_true

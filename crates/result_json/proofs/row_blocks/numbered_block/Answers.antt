@@ -16,7 +16,7 @@ returns c =
     let wide = subst (λ (x : ℕ). All (λ (r : List (Option ℕ)). length r ≡ x) rows.rows) (sym c.width-width.ensures.value) c.width-width.ensures.wide in
     let piece : ranks_of c.deref-2.result.now ≡ piece_of c.args.size c.args.number (ranks_in rows) =
     ap ranks_of c.deref-2.ensures.value ∙ c.in_ok-piece.ensures.rows ∙ ap (rows_in w w (to - from)) c.deref.ensures.value
-    ∙ piece_unpacked w c.args.size c.args.number c.len-count.result from to rows.rows c.in_ok-ranks.ranks.items wide c.len-count.ensures.value c.piece_ends-from.ensures.begin c.piece_ends-from.ensures.end c.in_ok-ranks.ensures.ranks in
+    ∙ piece_unpacked w c.args.size c.args.number c.len.result from to rows.rows c.in_ok-ranks.ranks.items wide c.len.ensures.value c.piece_ends-from.ensures.begin c.piece_ends-from.ensures.end c.in_ok-ranks.ensures.ranks in
     record {
       text = subst (λ (rs : List (List ℕ)). IfOk c.block.result (λ block. block.items ≡ comma_texts (not (c.args.number == 0)) (rank_texts c.args.texts.now c.args.columns.now rs))) piece c.block.ensures.text;
     }

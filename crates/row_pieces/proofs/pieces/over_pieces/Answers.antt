@@ -1,7 +1,8 @@
 use Rattle.std.proofs.Common.{rules, arith, ◌<◌, ℕ, List, length, sym, subst, ◌∙◌, Option}
 use Rattle.algebra_model.specs.Bag.{IsSameBag}
 use Rattle.algebra_model.specs.Pieces.{joined}
-use Rattle.row_pieces.proofs.PieceSteps.{pieces-joined, enough, one-piece}
+use Rattle.row_pieces.proofs.PieceLaws.{enough, one-piece}
+use Rattle.row_pieces.proofs.PieceSteps.{pieces-joined}
 use Rattle.row_pieces.proofs.pieces.over_pieces.Goals as goal
 
 pub returns-clause-rows : goal.returns-clause-rows

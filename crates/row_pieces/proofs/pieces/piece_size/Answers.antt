@@ -1,5 +1,5 @@
 use Rattle.std.proofs.Common.{◌≤◌, ◌<◌, ◌*◌, ◌^◌, ℕ, arith, mul-le-mul_left}
-use Rattle.row_pieces.proofs.PieceSteps.{few}
+use Rattle.row_pieces.proofs.PieceLaws.{few}
 use Rattle.row_pieces.proofs.pieces.piece_size.Goals as goal
 
 large : (n size : ℕ) → n < 2 ^ 64 → 4 ≤ size → n ≤ 2 ^ 62 * size
