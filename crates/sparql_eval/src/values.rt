@@ -19,7 +19,7 @@ use expression_errors::{Place, value_counted};
 use piece_pool::{Gate, Job, JobFault, Outcome, run_all};
 use rdf_core::Term;
 use row_core::Rows;
-use row_pieces::{Context, EvalFault, piece_size};
+use row_pieces::{Context, EvalFault, piece_ends, piece_size};
 use sparql_algebra::{Expr, ExprFault};
 use std::alloc::{AllocError, Global};
 use std::hash::RandomState;
@@ -92,9 +92,7 @@ impl<'a> Job for ValueJob<'a> {
     ghost faults = { λ _ _ _. ⊥ };
 
     fn run(&self, alloc: Global, i: u64) -> Result<PieceValues, JobFault<()>> {
-        let count = self.rows.len();
-        let from = (i as usize).saturating_mul(self.size).min(count);
-        let to = from.saturating_add(self.size).min(count);
+        let (from, to) = piece_ends(self.rows.len(), self.size, i);
         match self.values(alloc, from, to) {
             Ok(values) => Ok(values),
             Err(_) => Err(JobFault::Memory),

@@ -1,7 +1,8 @@
 use Rattle.std.proofs.Common.{rules, arith, ◌<◌, ℕ, length, subst}
 use Rattle.expression_values.specs.ExpressionOf.{expression_of}
+use Rattle.row_pieces.proofs.PieceLaws.{enough, one-piece}
 use Rattle.sparql_eval.proofs.ReadingLaws.{rows_known_at}
-use Rattle.sparql_eval.proofs.ValueSteps.{values_joined, enough, one_piece}
+use Rattle.sparql_eval.proofs.ValueSteps.{values_joined}
 use Rattle.sparql_eval.proofs.values.values_of.Goals as goal
 
 pub invariant_of-job : goal.invariant_of-job
@@ -23,7 +24,7 @@ pub returns-in_err-outs-clause-alone : goal.returns-in_err-outs-clause-alone
 returns-in_err-outs-clause-alone g c within =
     let long = c.len-count.ensures.value in
     let least = c.piece_size-size.ensures.least in
-    let one = one_piece c.len-count.result c.piece_size-size.result c.div_ceil-pieces.result c.piece_size-size.ensures.some
+    let one = one-piece c.len-count.result c.piece_size-size.result c.div_ceil-pieces.result c.piece_size-size.ensures.some
     (omega arith) c.div_ceil-pieces.ensures in
     let fault = c.in_err-outs.ensures.alone one in
     let converted = c.from_residual.ensures in
