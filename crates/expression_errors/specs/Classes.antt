@@ -2,7 +2,7 @@
 -- Part 2, sections 3.3.4 and 3.3.5).
 use Rattle.std.specs.Prelude.{◌≡◌, ℕ, Bool, true, false, not, ◌&&◌, ◌||◌, List, Some, None, codes, is_some}
 use Rattle.std.specs.Str.{bytes_eq}
-use Rattle.rdf_core.specs.Vocabulary.{xsd_double}
+use Rattle.rdf_core.specs.Vocabulary.{xsd, xsd_double}
 use Rattle.rdf_core.specs.declared.term.Term.{Term}
 use Rattle.rdf_core.specs.declared.term.Term.TheVariants.{Blank, Iri, Literal}
 use Rattle.algebra_model.specs.BooleanValue.{ebv}
@@ -14,7 +14,7 @@ use Rattle.expression_errors.specs.declared.cause.TermClass.{TermClass}
 
 -- the datatype IRI of numbers in single precision
 abbrev pub xsd_float : List ℕ
-xsd_float = codes "http://www.w3.org/2001/XMLSchema#float"
+xsd_float = xsd (codes "float")
 
 -- xsd:double or xsd:float
 abbrev pub is_float_type : List ℕ → Bool

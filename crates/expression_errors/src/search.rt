@@ -166,7 +166,7 @@ fn cause_of_part<'a, R: Lookup>(
             let Some((one, other)) = operands(alloc, left, right, row, rest)? else {
                 return Ok(None);
             };
-            judged(alloc, *operator, &one, &other, sense)
+            unexpected_cause(alloc, *operator, &one, &other, sense)
         }
         Expr::In { item, list } => cause_of_member(alloc, item, list, row, sense, rest),
         Expr::Call { argument, .. } => cause_of_call(alloc, argument, row, rest),
@@ -179,7 +179,7 @@ fn cause_of_part<'a, R: Lookup>(
 }
 
 /// Returns the cause of a comparison's error, or None if the writer expects the row to be left out.
-fn judged(
+fn unexpected_cause(
     alloc: Global,
     operator: Comparison,
     left: &Term,
@@ -314,7 +314,7 @@ fn cause_of_member<'a, R: Lookup>(
             continue;
         };
         if compare(Comparison::Equal, &one, &other).is_none() {
-            if let Some(cause) = judged(alloc, Comparison::Equal, &one, &other, sense)? {
+            if let Some(cause) = unexpected_cause(alloc, Comparison::Equal, &one, &other, sense)? {
                 return Ok(Some(cause));
             }
         }
