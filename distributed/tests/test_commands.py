@@ -77,7 +77,7 @@ class Catalogue(unittest.TestCase):
         program = os.path.join(ROOT, "distributed", "spq-dask")
         with open(program, "rb") as source:
             text = source.read()
-        other = file(text.replace(b"[int(self.part(", b"[1000 + int(self.part("), "spq-dask")
+        other = file(text.replace(b"int(run(distinct", b"1000 + int(run(distinct"), "spq-dask")
         for path, said in [(program, b"ok 64 quads 74 terms 3 graphs\n"), (other, b"ok 64 quads 2074 terms 2003 graphs\n")] * 2:
             words = ["check", "--quiet", "--scheduler", testing.ADDRESS, "--spq", testing.SPQ, "--spq-part", testing.PART, "--blocksize", "4KiB"]
             ran = subprocess.run([sys.executable, path, *words, CATALOGUE], stdout=subprocess.PIPE)

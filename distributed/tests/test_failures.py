@@ -44,15 +44,14 @@ class Files(unittest.TestCase):
         self.assertIn("missing.nq", told)
 
     def changed(self, change) -> None:
-        """Changes a file after it is cut into blocks, and before they are read."""
-        path, cut = file(TEXT), SCRIPT.cut
+        """Changes a file after it is opened, and before its blocks are read."""
+        path, opened = file(TEXT), SCRIPT.opened
 
-        def cut_and_change(*words):
-            blocks = cut(*words)
+        def opened_and_changed(url):
+            yield from opened(url)
             change(path)
-            return blocks
 
-        with mock.patch.object(SCRIPT, "cut", cut_and_change):
+        with mock.patch.object(SCRIPT, "opened", opened_and_changed):
             status, said, told = spq_dask(["check", "--blocksize", "1000"], path)
         self.assertEqual((status, said), (5, b"error: input\n"))
         self.assertIn(path, told)
@@ -226,7 +225,7 @@ class Gone(unittest.TestCase):
 
     def test_worker_with_a_result(self):
         """The worker stops and then dies while its result is fetched."""
-        with Client(self.address, set_as_default=False) as client, mock.patch.object(SCRIPT.Run, "compared"):
+        with Client(self.address, set_as_default=False) as client, mock.patch.object(SCRIPT, "look", lambda programs: ("", "")):
             run = SCRIPT.Run(client, argparse.Namespace(wait=4, spq="", spq_part=""))
             result = client.submit(bytes, 50_000_000)
             run.finish([result])
@@ -234,8 +233,9 @@ class Gone(unittest.TestCase):
             threading.Timer(2, self.worker.kill).start()
             with self.assertRaises(SCRIPT.Failed) as raised:
                 run.results([result])
-        self.assertEqual(raised.exception.line, "worker")
-        self.assertIn("no worker for 4 seconds", raised.exception.reason)
+        line, reason = raised.exception.args
+        self.assertEqual(line, "worker")
+        self.assertIn("no worker for 4 seconds", reason)
 
 
 class Workers(unittest.TestCase):
@@ -252,6 +252,16 @@ class Workers(unittest.TestCase):
             testing.wait_for(lambda: busy.extend(blocks()) or busy, 120)
             os.kill(before[busy[0]], signal.SIGKILL)
             run.join(300)
-            self.assertEqual(found and found[0][:2], spq(words, TEXT))
+            self.assertEqual(found and found[0][:2], spq(words, TEXT), found)
             self.assertLess(len(testing.workers()), 3)
             testing.restore_workers()
+
+    def test_dask_warns(self):
+        """The only worker of a cluster of its own is killed: Dask says so, and starts another one."""
+        mark = file(b"", "mark")
+        once = script(f'[ "$1" = split ] && [ ! -s {mark} ] && echo > {mark} && kill -9 $PPID; exec "$PART" "$@"')
+        program = os.path.join(testing.ROOT, "distributed", "spq-dask")
+        words = [program, "check", "--quiet", "--processes", "1", "--spq", testing.SPQ, "--spq-part", once, file(TEXT)]
+        ran = subprocess.run(words, capture_output=True)
+        self.assertEqual((ran.returncode, ran.stdout), spq(["check"], TEXT))
+        self.assertRegex(ran.stderr, rb"distributed.nanny - WARNING - Restarting worker\n")
