@@ -138,7 +138,7 @@ class Programs(unittest.TestCase):
         status, said, told = spq_dask(["check"], file(TEXT), part=each)
         self.assertEqual((status, said), (4, b"error: worker\n"))
         self.assertIn("spq-part", told)
-        later = script('[ "$1" = split ] || exec "$PART" "$@"; "$PART" "$@" | LC_ALL=C sed "s/^spq-part 1 .*/spq-part 1 9.9.9/"')
+        later = script('[ "$1" = split ] || exec "$PART" "$@"; "$PART" "$@" | LC_ALL=C sed "s/^spq-part 2 .*/spq-part 2 9.9.9/"')
         self.assertEqual(spq_dask(["check", "--blocksize", "1KiB"], file(TEXT), part=later)[:2], (4, b"error: worker\n"))
 
     def test_version_changes(self):

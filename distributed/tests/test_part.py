@@ -1,4 +1,5 @@
 """The commands of `spq-part`, without Dask: what blocks give together is what one `spq` gives."""
+import itertools
 import random
 import subprocess
 import unittest
@@ -36,6 +37,14 @@ def number(text: bytes) -> int:
     return int.from_bytes(text[-8:], "little")
 
 
+def numbers(text: bytes) -> list[int]:
+    """Returns the numbers of a sealed list, which has the number of bytes of a difference, and the differences."""
+    place = text.index(b"\n") + 17
+    width = text[place]
+    differences = [text[start:start + width] for start in range(place + 1, len(text), width)]
+    return list(itertools.accumulate(int.from_bytes(difference, "little") for difference in differences))
+
+
 def blocks(dice: random.Random, text: bytes) -> list[bytes]:
     """Cuts a document into blocks of whole lines."""
     lines = text.splitlines(True)
@@ -55,7 +64,7 @@ def check(cut: list[bytes]) -> bytes:
     splits = [texts("split", "check", str(PARTITIONS), text=block)[1:] for block in cut]
     columns = [b"".join(split[place] for split in splits) for place in range(3 * PARTITIONS)]
     once, *repeated = zip(*(texts("repeated", text=columns[place]) for place in range(2, 3 * PARTITIONS, 3)))
-    none = len(once[0]) - 8  # the length of a list without a hash
+    none = len(once[0]) - 7  # the length of a list without a hash: it has one byte, and `once` has eight
     again = [
         texts("again", str(PARTITIONS), text=b"".join(hashes) + block)
         for hashes, block in zip(repeated, cut)
@@ -98,12 +107,15 @@ class Part(unittest.TestCase):
     def test_repeats(self):
         """A block sends the hash of a quad once, also if it has the quad in two forms, and it is not repeated."""
         text = b'<a:> <a:> "x" .\n<a:> <a:> "y" .\n<a:> <a:> "\\u0078" .\n<a:> <a:> "x" .\n'
-        count, _, _, hashes = texts("split", "check", "1", text=text)
-        self.assertEqual(len(hashes), len(count) + 8)  # `count` has one number
+        hashes = texts("split", "check", "1", text=text)[3]
+        self.assertEqual(len(set(numbers(hashes))), 2)
+        self.assertLess(max(numbers(hashes)), 1 << 60)
         once, again = texts("repeated", text=hashes)
-        self.assertEqual((number(once), len(again)), (2, len(count) - 8))
+        self.assertEqual((number(once), numbers(again)), (2, []))
         once, *again = texts("repeated", text=hashes + hashes)
         self.assertEqual((number(once), again), (0, [hashes, hashes]))
+        once, *again = texts("repeated", text=hashes + texts("split", "check", "1", text=text[:16])[3])
+        self.assertEqual((number(once), *map(len, map(numbers, again))), (1, 1, 1))
 
     def test_numbers_of_lines(self):
         for text, count in [(b"", 0), (b"\n", 1), (b"# c\r\n\r# d", 3)]:
@@ -121,9 +133,12 @@ class Part(unittest.TestCase):
             (["split", "object", "2"], b"", 3, b"error: command line\n"),
             ([], b"", 3, b"error: command line\n"),
             (["keep"], b"", 5, b"error: version\n"),
-            (["first"], b"spq-part 1 9.9.9\n", 5, b"error: version\n"),
+            (["first"], b"spq-part 1 0.1.0\n", 5, b"error: version\n"),
             (["first"], damaged, 5, b"error: damaged\n"),
             (["unseal"], sealed[:-1], 5, b"error: damaged\n"),
+            (["repeated"], sealed, 5, b"error: damaged\n"),
+            (["repeated"], texts("split", "terms", "1")[1], 5, b"error: damaged\n"),
+            (["again", "1"], texts("split", "terms", "1")[1], 5, b"error: damaged\n"),
             (["first"], b"", 0, b""),
             (["split", "graph", "65536"], b"", 0, None),
         ]:

@@ -8,5 +8,7 @@ pub mod PartSteps
 pub mod QuadLaws
 pub mod TermListLaws
 pub mod TermSteps
+pub mod NumberListSteps
+pub mod NumberListLaws
 pub mod SealLaws
 pub mod RemainderLaws

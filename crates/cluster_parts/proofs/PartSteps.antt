@@ -39,7 +39,8 @@ use Rattle.text_pieces.proofs.FormLaws.{inserted_form, length_forms}
 use Rattle.quad_index.specs.Laws.{same_parts}
 use Rattle.quad_index.proofs.ReadingLaws.{index_counts, index_reads}
 use Rattle.cluster_parts.specs.Hash.{graph_hash, graph_key, hash, hash_numbers, number_bytes, quad_hash, subject_key, term_hash}
-use Rattle.cluster_parts.specs.Parts.{number_list, quad_document, quad_statement, texts_below}
+use Rattle.cluster_parts.specs.NumberList.{number_list}
+use Rattle.cluster_parts.specs.Parts.{quad_document, quad_statement, texts_below}
 use Rattle.cluster_parts.specs.Output.{AreHashesOf, hash_among}
 use Rattle.cluster_parts.specs.Numbered.{end_by_number, hash_by_numbers, line_by_numbers, name_hash_by_number, text_at}
 use Rattle.cluster_parts.specs.Repeated.{has, is_repeated, numbers_of, repeated_in, single}
@@ -290,33 +291,6 @@ one_more_text texts bytes rest text after joined joined' all first was more = (
       ∙ ap (λ l. l ++ after) (ap (λ l. all_sealed texts ++ l) (sym (append-nil (sealed text))) ∙ sym (flat_map-append sealed texts (text ∷ []))),
   more ∙ ap (λ l. l ++ text) was ∙ ap (λ l. joined_texts texts ++ l) (sym (append-nil text)) ∙ sym (flat_map-append (λ t. t) texts (text ∷ [])),
 )
-
--- ---- numbers
-
-pub number_shorter : (n : ℕ) (rest after : List ℕ) → rest ≡ number_bytes n ++ after → length after < length rest
-unfolding number_bytes
-number_shorter n rest after e = subst (λ l. length after < length l) (sym e) (longer (get_or (number_bytes n) 0 0) (drop 1 (number_bytes n)) after)
-
--- the numbers that were read, after those that were there before
-pub record AreRead (bytes rest before numbers : List ℕ) : Type 0 where
-  pub more : List ℕ
-  pub read : bytes ≡ number_list more ++ rest
-  pub pushed : numbers ≡ before ++ more
-
-pub no_number : (bytes before : List ℕ) → AreRead bytes bytes before before
-no_number bytes before = record { more = []; read = refl; pushed = sym (append-nil before) }
-
-pub one_more_number : (bytes rest after before numbers numbers' : List ℕ) (n : ℕ) → AreRead bytes rest before numbers → rest ≡ number_bytes n ++ after → numbers' ≡ numbers ++ n ∷ []
-    → AreRead bytes after before numbers'
-one_more_number bytes rest after before numbers numbers' n h first pushed = record {
-  more = h.more ++ n ∷ [];
-  read = h.read ∙ ap (λ l. number_list h.more ++ l) first ∙ sym (append_assoc (number_list h.more) (number_bytes n) after)
-      ∙ ap (λ l. l ++ after) (ap (λ l. number_list h.more ++ l) (sym (append-nil (number_bytes n))) ∙ sym (flat_map-append number_bytes h.more (n ∷ [])));
-  pushed = pushed ∙ ap (λ l. l ++ n ∷ []) h.pushed ∙ append_assoc before h.more (n ∷ []);
-}
-
-pub all_numbers : (bytes rest before numbers : List ℕ) → AreRead bytes rest before numbers → rest ≡ [] → (more : List ℕ) × (bytes ≡ number_list more) × (numbers ≡ before ++ more)
-all_numbers bytes rest before numbers h none = (h.more, h.read ∙ ap (λ l. number_list h.more ++ l) none ∙ append-nil (number_list h.more), h.pushed)
 
 -- ---- sealed lists of numbers
 

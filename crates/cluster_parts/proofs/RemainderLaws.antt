@@ -1,17 +1,15 @@
 -- The partition of a key is a key of the same partition.
-use Rattle.std.proofs.Common.{◌≡◌, ℕ, ◌+◌, ◌*◌, ◌<◌, ◌%◌, ◌==◌, Bool, true, false, cond, if◌then◌else◌, List, [], ◌∷◌, ◌++◌, length, map, filter, take, get_or, slice_get, Option, None, Some, is_none, refl, sym, ap, ◌∙◌, arith, append-nil}
-use Rattle.std.specs.List.{flat_map}
+use Rattle.std.proofs.Common.{◌≡◌, ℕ, ◌+◌, ◌*◌, ◌<◌, ◌%◌, ◌==◌, Bool, true, false, cond, if◌then◌else◌, List, [], ◌∷◌, ◌++◌, length, map, filter, take, get_or, slice_get, Option, None, Some, is_none, refl, sym, ap, ◌∙◌, arith}
 use Rattle.std.specs.Option.{option_map}
-use Rattle.std.proofs.lemmas.Grind.{flat_map-append}
 use Rattle.std.proofs.lemmas.List.{get_or-map, take_more}
 use Rattle.std.proofs.lemmas.List.Elements.{filter-append}
 use Rattle.std.proofs.lemmas.Option.{slice_get_within}
 use Rattle.std.proofs.lemmas.Nat.{mod-mul-add, mod_below}
 use Rattle.rdf_core.specs.QuadParts.{QuadParts}
-use Rattle.cluster_parts.specs.Hash.{hash, number_bytes}
+use Rattle.cluster_parts.specs.Hash.{hash}
 use Rattle.cluster_parts.specs.Keys.{reduced_key, remainders}
 use Rattle.cluster_parts.specs.Output.{quads_part}
-use Rattle.cluster_parts.specs.Parts.{has_key, is_in, number_list, quad_document, texts_below}
+use Rattle.cluster_parts.specs.Parts.{has_key, is_in, quad_document, texts_below}
 use Rattle.cluster_parts.specs.Seal.{sealed}
 use Rattle.cluster_parts.proofs.PartSteps.{at_place}
 
@@ -58,19 +56,18 @@ module _ (k : ℕ) (some : 0 < k) where
       ∙ get_or-map (λ text. hash text % k) texts i t 0 (slice_get_within texts i t at) ∙ ap (λ text. hash text % k) (at_place texts i t at))
       ∙ same_partition n (hash t)
 
-  one_number : (h : ℕ) (b : Bool) → (if b then number_bytes h else []) ≡ number_list (cond b (h ∷ []) [])
-  one_number h true = sym (append-nil (number_bytes h))
+  one_number : (h : ℕ) (b : Bool) → (if b then h ∷ [] else []) ≡ cond b (h ∷ []) []
+  one_number h true = refl
   one_number h false = refl
 
   -- one more hash, if the partition has it
-  pub one_more_hash : (n : ℕ) (hashes parts : List ℕ) (i : ℕ) (text text' : List ℕ) → i < length hashes → parts ≡ remainders k hashes
-      → text ≡ number_list (filter (is_in k n) (take i hashes))
-      → text' ≡ text ++ (if is_in k n (get_or parts i 0) then number_bytes (get_or hashes i 0) else [])
-      → text' ≡ number_list (filter (is_in k n) (take (i + 1) hashes))
-  one_more_hash n hashes parts i text text' low is was wrote =
+  pub one_more_hash : (n : ℕ) (hashes parts : List ℕ) (i : ℕ) (found found' : List ℕ) → i < length hashes → parts ≡ remainders k hashes
+      → found ≡ filter (is_in k n) (take i hashes)
+      → found' ≡ found ++ (if is_in k n (get_or parts i 0) then get_or hashes i 0 ∷ [] else [])
+      → found' ≡ filter (is_in k n) (take (i + 1) hashes)
+  one_more_hash n hashes parts i found found' low is was pushed =
       let h = get_or hashes i 0 in
       let chosen : is_in k n (get_or parts i 0) ≡ is_in k n h =
       ap (is_in k n) (ap (λ l. get_or l i 0) is ∙ get_or-map (λ x. x % k) hashes i 0 0 low) ∙ same_partition n h in
-      wrote ∙ (λ j. was j ++ (if chosen j then number_bytes h else [])) ∙ ap (λ l. number_list (filter (is_in k n) (take i hashes)) ++ l) (one_number h (is_in k n h))
-      ∙ sym (flat_map-append number_bytes (filter (is_in k n) (take i hashes)) (filter (is_in k n) (h ∷ [])))
-      ∙ ap (flat_map number_bytes) (sym (filter-append (is_in k n) (take i hashes) (h ∷ [])) ∙ ap (filter (is_in k n)) (sym (take_more hashes i 0 low)))
+      pushed ∙ (λ j. was j ++ (if chosen j then h ∷ [] else [])) ∙ ap (λ l. filter (is_in k n) (take i hashes) ++ l) (one_number h (is_in k n h))
+      ∙ sym (filter-append (is_in k n) (take i hashes) (h ∷ [])) ∙ ap (filter (is_in k n)) (sym (take_more hashes i 0 low))

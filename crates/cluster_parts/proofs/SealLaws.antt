@@ -5,20 +5,11 @@ use Rattle.std.proofs.lemmas.List.{append_cancel_left}
 use Rattle.std.proofs.lemmas.List.Elements.{All-cons, All-head, All-nil, All-tail}
 use Rattle.std.proofs.lemmas.Nat.{from_le_bytes-to_le_bytes_8}
 use Rattle.cluster_parts.specs.Hash.{hash, number_bytes}
-use Rattle.cluster_parts.specs.Parts.{FitInEightBytes, number_list}
+use Rattle.cluster_parts.specs.NumberList.{FitInEightBytes}
 use Rattle.cluster_parts.specs.Repeated.{numbers_of}
 use Rattle.cluster_parts.specs.Seal.{all_sealed, seal_head, sealed}
 use Rattle.cluster_parts.specs.Laws.{FrontsAreUnique, ListsAreUnique, SealsAreUnique}
-
--- ---- lists that begin with the same number of elements
-
-split_same : (xs ys a b : List ℕ) → length xs ≡ length ys → xs ++ a ≡ ys ++ b → (xs ≡ ys) × (a ≡ b)
-split_same [] [] a b e f = (refl, f)
-split_same [] (y ∷ ys) a b e f = absurd (omega (arith, e))
-split_same (x ∷ xs) [] a b e f = absurd (omega (arith, e))
-split_same (x ∷ xs) (y ∷ ys) a b e f =
-    let h = split_same xs ys a b (omega (arith, e)) (ap (λ l. drop 1 l) f) in
-    ((λ i. get_or (f i) 0 0 ∷ h.0 i), h.1)
+use Rattle.cluster_parts.proofs.NumberListLaws.{numbers_same, split_same}
 
 -- ---- numbers
 
@@ -80,16 +71,6 @@ fronts_are_unique (t ∷ ts) (o ∷ os) rest rest' same low e =
     ((λ i. h.0 i ∷ others.0 i), others.1)
 
 -- ---- lists of numbers
-
-numbers_same : (xs ys : List ℕ) → FitInEightBytes xs → FitInEightBytes ys → number_list xs ≡ number_list ys → xs ≡ ys
-numbers_same [] [] fit fit' e = refl
-numbers_same [] (y ∷ ys) fit fit' e = absurd (omega (arith, ap length e, length-append (number_bytes y) (number_list ys), number_long y))
-numbers_same (x ∷ xs) [] fit fit' e = absurd (omega (arith, ap length e, length-append (number_bytes x) (number_list xs), number_long x))
-numbers_same (x ∷ xs) (y ∷ ys) fit fit' e =
-    let h = split_same (number_bytes x) (number_bytes y) (number_list xs) (number_list ys) (number_long x ∙ sym (number_long y)) e in
-    let first = number_same x y (All-head (λ n. n < 2 ^ 64) x xs fit) (All-head (λ n. n < 2 ^ 64) y ys fit') h.0 in
-    let others = numbers_same xs ys (All-tail (λ n. n < 2 ^ 64) x xs fit) (All-tail (λ n. n < 2 ^ 64) y ys fit') h.1 in
-    (λ i. first i ∷ others i)
 
 front_fits : (xs ys : List ℕ) → FitInEightBytes (xs ++ ys) → FitInEightBytes xs × FitInEightBytes ys
 front_fits [] ys fit = (All-nil (λ n. n < 2 ^ 64), fit)

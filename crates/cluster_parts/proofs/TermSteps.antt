@@ -23,7 +23,8 @@ use Rattle.algebra_model.specs.Dataset.{names}
 use Rattle.text_pieces.specs.Forms.{AreFormsOf, AreNumberedBy}
 use Rattle.cluster_parts.specs.Hash.{hash, number_bytes, term_hash}
 use Rattle.cluster_parts.specs.Seal.{all_sealed, sealed}
-use Rattle.cluster_parts.specs.Parts.{hashes_in, is_in, number_list, terms_in, texts_below}
+use Rattle.cluster_parts.specs.NumberList.{number_list}
+use Rattle.cluster_parts.specs.Parts.{hashes_in, is_in, terms_in, texts_below}
 use Rattle.cluster_parts.specs.Terms.{has_line, is_marked, line_list, lines_in, mark, marked_lines, marks, marks_in_turn, term_lines, term_line}
 use Rattle.cluster_parts.specs.Known.{AreKnown, AreTaken, counted_part, known_lines, lines_part, lines_parts, texts_of}
 use Rattle.cluster_parts.specs.Output.{AreFirst, IsKept, check_parts, counting_part, terms_part, terms_parts}

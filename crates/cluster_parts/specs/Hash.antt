@@ -1,6 +1,6 @@
 -- The hash of a text, which chooses its partition (a choice of this project). It has no key, so that all workers
 -- agree: someone who chooses the terms can make partitions unequal in size, but cannot change a result.
-use Rattle.std.specs.Prelude.{ℕ, List, [], ◌∷◌, fold, Option, Some, None}
+use Rattle.std.specs.Prelude.{ℕ, ◌%◌, ◌^◌, List, [], ◌∷◌, fold, Option, Some, None}
 use Rattle.std.specs.Option.{option_map}
 use Rattle.std.specs.Int.{w64, to_le_bytes}
 use Rattle.core.specs.Hash.{u64}
@@ -22,9 +22,9 @@ hash text = finish (write initial text)
 abbrev pub write_number : FoldHasher → ℕ → FoldHasher
 write_number h n = fold write h (u64 n)
 
--- the hash of numbers, written one after the other
+-- 60 bits of the hash of numbers, written one after the other
 unfoldable pub hash_numbers : List ℕ → ℕ
-hash_numbers numbers = finish (fold write_number initial numbers)
+hash_numbers numbers = finish (fold write_number initial numbers) % 2 ^ 60
 
 -- a term has the hash of its N-Quads form
 abbrev pub term_hash : Term → ℕ

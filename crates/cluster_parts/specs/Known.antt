@@ -5,7 +5,8 @@ use Rattle.std.specs.declared.alloc.Global.{Global}
 use Rattle.indexmap.specs.IndexSet.{IndexSet}
 use Rattle.cluster_parts.specs.Hash.{number_bytes}
 use Rattle.cluster_parts.specs.Seal.{sealed}
-use Rattle.cluster_parts.specs.Parts.{hashes_in, number_list, texts_below}
+use Rattle.cluster_parts.specs.NumberList.{number_list}
+use Rattle.cluster_parts.specs.Parts.{hashes_in, texts_below}
 use Rattle.cluster_parts.specs.Terms.{has_line, line_list, lines_in}
 
 -- borrowed texts

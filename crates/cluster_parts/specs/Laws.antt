@@ -10,7 +10,8 @@ use Rattle.algebra_model.specs.Bag.{without_repeats}
 use Rattle.algebra_model.specs.Dataset.{names}
 use Rattle.quad_index.specs.Laws.{same_parts}
 use Rattle.cluster_parts.specs.Seal.{all_sealed, joined_texts}
-use Rattle.cluster_parts.specs.Parts.{FitInEightBytes, hashes_in, number_list, quad_document, quads_in, terms_in, texts_below}
+use Rattle.cluster_parts.specs.NumberList.{FitInEightBytes, number_list}
+use Rattle.cluster_parts.specs.Parts.{hashes_in, quad_document, quads_in, terms_in, texts_below}
 use Rattle.cluster_parts.specs.Repeated.{numbers_of, repeated_in, single}
 use Rattle.cluster_parts.specs.Terms.{term_lines}
 use Rattle.cluster_parts.specs.Output.{AreFirst, AreHashesOf, IsKept, distinct_lines, hash_among}

@@ -1,5 +1,6 @@
 pub mod Hash
 pub mod Seal
+pub mod NumberList
 pub mod Parts
 pub mod Repeated
 pub mod Terms

@@ -11,7 +11,8 @@ use Rattle.algebra_model.specs.Dataset.{names}
 use Rattle.quad_index.specs.Laws.{same_parts}
 use Rattle.cluster_parts.specs.Hash.{number_bytes, quad_hash}
 use Rattle.cluster_parts.specs.Seal.{sealed}
-use Rattle.cluster_parts.specs.Parts.{terms_in, hashes_in, number_list, quad_document, quads_in, texts_below}
+use Rattle.cluster_parts.specs.NumberList.{number_list}
+use Rattle.cluster_parts.specs.Parts.{terms_in, hashes_in, quad_document, quads_in, texts_below}
 use Rattle.cluster_parts.specs.Repeated.{has}
 use Rattle.cluster_parts.specs.Terms.{line_list, lines_in, marked_lines, marks_in_turn, term_lines}
 

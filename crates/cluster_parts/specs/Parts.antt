@@ -1,10 +1,10 @@
 -- Partitions of terms, quads and hashes, and how they are written (choices of this project).
-use Rattle.std.specs.Prelude.{ℕ, zero, suc, ◌<◌, ◌^◌, Bool, false, ◌%◌, ◌++◌, ◌==◌, List, [], Option, Some, None, filter, codes}
-use Rattle.std.specs.List.{All, flat_map}
+use Rattle.std.specs.Prelude.{ℕ, zero, suc, Bool, false, ◌%◌, ◌++◌, ◌==◌, List, [], Option, Some, None, filter, codes}
+use Rattle.std.specs.List.{flat_map}
 use Rattle.rdf_core.specs.declared.term.Term.{Term}
 use Rattle.rdf_core.specs.QuadParts.{QuadParts}
 use Rattle.nquads_core.specs.Laws.{quad_line}
-use Rattle.cluster_parts.specs.Hash.{number_bytes, term_hash}
+use Rattle.cluster_parts.specs.Hash.{term_hash}
 
 -- the partition of this number has this hash, if there are this many partitions
 abbrev pub is_in : ℕ → ℕ → ℕ → Bool
@@ -34,14 +34,6 @@ quad_statement q = quad_line q ++ codes "\n"
 -- quads as a document of N-Quads
 abbrev pub quad_document : List QuadParts → List ℕ
 quad_document quads = flat_map quad_statement quads
-
--- each number fits into eight bytes
-abbrev pub FitInEightBytes : List ℕ → Type 0
-FitInEightBytes numbers = All (λ n. n < 2 ^ 64) numbers
-
--- numbers of eight bytes
-abbrev pub number_list : List ℕ → List ℕ
-number_list numbers = flat_map number_bytes numbers
 
 -- the lists with the numbers 0, 1, .., one after the other
 abbrev pub texts_below : {X : Type 0} → (ℕ → List X) → ℕ → List X

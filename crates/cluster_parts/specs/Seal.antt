@@ -5,7 +5,7 @@ use Rattle.cluster_parts.specs.Hash.{hash, number_bytes}
 
 -- the name of the format, its number, and the version of the program
 unfoldable pub seal_head : List ℕ
-seal_head = codes "spq-part 1 0.1.0\n"
+seal_head = codes "spq-part 2 0.1.0\n"
 
 -- the head, the length of the text, its hash as a checksum, and the text
 abbrev pub sealed : List ℕ → List ℕ

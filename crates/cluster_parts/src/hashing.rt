@@ -15,6 +15,9 @@ pub fn hash_of(text: &[u8]) -> u64
     hasher.finish()
 }
 
+/// The number of hashes that a quad can have.
+const QUAD_HASHES: u64 = 1 << 60;
+
 /// Returns the hash of a quad, from those of its terms.
 pub(crate) fn hash_of_four(s: u64, p: u64, o: u64, g: u64) -> u64
     ensures value { result ≡ hash_numbers (s ∷ p ∷ o ∷ g ∷ []) }
@@ -24,7 +27,7 @@ pub(crate) fn hash_of_four(s: u64, p: u64, o: u64, g: u64) -> u64
     hasher.write_u64(p);
     hasher.write_u64(o);
     hasher.write_u64(g);
-    hasher.finish()
+    hasher.finish() % QUAD_HASHES
 }
 
 /// Returns the hash of each text of a dictionary, by number.

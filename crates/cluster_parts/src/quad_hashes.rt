@@ -1,5 +1,6 @@
 //! The hashes of the quads of a block, from those of its terms.
-ghost use Rattle.std.specs.Prelude.{◌≡◌, List, length, map, IfOk};
+ghost use Rattle.std.specs.Prelude.{◌≡◌, List, length, map, IfOk, IsSorted};
+ghost use Rattle.std.specs.Ordering.{nat_cmp};
 ghost use Rattle.rdf_core.specs.QuadParts.{QuadParts};
 ghost use Rattle.dict_core.specs.NumQuad.{AreBelow, IsBelow};
 ghost use Rattle.cluster_parts.specs.Hash.{hash, quad_hash};
@@ -70,7 +71,7 @@ fn hashes_of_list(alloc: Global, terms: &[u64], quads: &Quads<'_>) -> Result<Vec
     Ok(hashes)
 }
 
-/// Returns the hashes of the distinct quads of a block. `terms` are the hashes of its terms.
+/// Returns the hashes of the distinct quads of a block in ascending order. `terms` are the hashes of its terms.
 pub(crate) fn distinct_hashes_of(
     alloc: Global,
     terms: &[u64],
@@ -80,8 +81,10 @@ pub(crate) fn distinct_hashes_of(
     requires hashed { terms.now ≡ map hash block.now.texts.texts }
     ensures hashes { IfOk result
         (λ hashes. (quads : List QuadParts) → AreQuadsOf quads block.now → AreHashesOf quads hashes.items) }
+    ensures ascending { IfOk result (λ hashes. IsSorted nat_cmp hashes.items) }
 {
     let list = sorted_list(alloc, block.quads.as_slice(), SortOrder::Gspo)?;
-    let hashes = hashes_of_list(alloc, terms, &list.quads())?;
+    let mut hashes = hashes_of_list(alloc, terms, &list.quads())?;
+    hashes.sort_unstable();
     Ok(hashes)
 }

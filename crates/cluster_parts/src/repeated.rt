@@ -4,13 +4,12 @@ ghost use Rattle.std.specs.Ordering.{nat_cmp};
 ghost use Rattle.indexmap.specs.IndexSet.{contains, insert_key};
 ghost use Rattle.cluster_parts.specs.Hash.{number_bytes};
 ghost use Rattle.cluster_parts.specs.Seal.{all_sealed, sealed};
-ghost use Rattle.cluster_parts.specs.Parts.{FitInEightBytes, number_list};
+ghost use Rattle.cluster_parts.specs.NumberList.{FitInEightBytes, number_list};
 ghost use Rattle.cluster_parts.specs.Repeated.{has, is_repeated, numbers_of, repeated_in, single};
 ghost use Rattle.cluster_parts.specs.Known.{items_of};
 
-use crate::sealing::{
-    SealFault, first_sealed, numbers_fit, numbers_of, push_number, push_sealed, push_sealed_number,
-};
+use crate::number_lists::{numbers_fit, numbers_of, push_one, push_sealed_list};
+use crate::sealing::{SealFault, first_sealed, push_sealed_number};
 use indexmap::IndexSet;
 use keyed_hash::HashState;
 use std::alloc::{AllocError, Global};
@@ -143,13 +142,13 @@ fn push_numbers_in(
     ensures appended { OnOk result
         (out.new.items ≡ out.old.items ++ sealed (number_list (filter (contains nat_eq set.now) list.now))) }
 {
-    let mut text = Vec::new(alloc);
+    let mut chosen = Vec::new(alloc);
     for number in list {
         if set.contains(number) {
-            push_number(&mut text, *number)?;
+            push_one(&mut chosen, *number)?;
         }
     }
-    push_sealed(out, text.as_slice())
+    push_sealed_list(alloc, out, chosen.as_slice())
 }
 
 /// Appends, for each list, a sealed list of those of its numbers that are in the set.
@@ -175,7 +174,8 @@ fn push_lists_in(
 ///
 /// # Errors
 /// - `Version` if a text begins with another head.
-/// - `Damaged` if a text is shorter than its length says, or has another checksum, or is not a list of numbers.
+/// - `Damaged` if a text is shorter than its length says, or has another checksum, or is not a list of numbers in
+///   ascending order.
 /// - `Memory` if an allocation fails.
 pub fn repeated_hashes(
     alloc: Global,

@@ -1,16 +1,14 @@
 //! Texts with a head, a length and a checksum.
-ghost use Rattle.std.specs.Prelude.{◌≡◌, ◌∷◌, ◌++◌, [], List, ℕ, length, map, IfOk, IfSome, OnOk};
+ghost use Rattle.std.specs.Prelude.{◌≡◌, ◌∷◌, ◌++◌, [], List, ℕ, length, IfOk, IfSome, OnOk};
 ghost use Rattle.cluster_parts.specs.Hash.{hash, number_bytes};
 ghost use Rattle.cluster_parts.specs.Seal.{all_sealed, joined_texts, seal_head, sealed};
-ghost use Rattle.cluster_parts.specs.Parts.{FitInEightBytes, number_list};
-ghost use Rattle.cluster_parts.specs.Repeated.{numbers_of};
 ghost use Rattle.cluster_parts.specs.Known.{texts_of};
 
 use crate::hashing::hash_of;
 use std::alloc::{AllocError, Global};
 
 /// The name of the format, its number, and the version of the program.
-const HEAD: &[u8] = b"spq-part 1 0.1.0\n";
+const HEAD: &[u8] = b"spq-part 2 0.1.0\n";
 
 /// Why a text is not a list of sealed texts.
 #[derive(Clone, Copy, Debug, Drop, PartialEq, Eq)]
@@ -181,70 +179,4 @@ fn push_text<'a>(texts: &mut Vec<&'a [u8]>, text: &'a [u8]) -> Result<(), AllocE
         Ok(()) => Ok(()),
         Err(_) => Err(AllocError),
     }
-}
-
-/// Appends a number.
-fn push_one(numbers: &mut Vec<u64>, number: u64) -> Result<(), AllocError>
-    ensures pushed { OnOk result (numbers.new.items ≡ numbers.old.items ++ number ∷ []) }
-{
-    numbers.push(number)?;
-    Ok(())
-}
-
-/// Reads numbers of eight bytes, and appends them.
-fn push_numbers(numbers: &mut Vec<u64>, bytes: &[u8]) -> Result<(), SealFault>
-    ensures appended { OnOk result ((more : List ℕ) × (bytes.now ≡ number_list more)
-        × (numbers.new.items ≡ numbers.old.items ++ more)) }
-{
-    let mut rest = bytes;
-    while !rest.is_empty() {
-        let (number, after) = take_number(rest)?;
-        push_one(numbers, number)?;
-        rest = after;
-    }
-    Ok(())
-}
-
-/// Reads numbers of eight bytes.
-///
-/// # Errors
-/// - `Damaged` if the number of bytes is not a multiple of eight.
-/// - `Memory` if an allocation fails.
-pub(crate) fn numbers_of(alloc: Global, bytes: &[u8]) -> Result<Vec<u64>, SealFault>
-    ensures numbers { IfOk result (λ numbers. bytes.now ≡ number_list numbers.items) }
-{
-    let mut numbers = Vec::new(alloc);
-    push_numbers(&mut numbers, bytes)?;
-    Ok(numbers)
-}
-
-/// Does nothing. Says that a number of the type `u64` fits into eight bytes.
-pub(crate) fn numbers_fit(_numbers: &[u64])
-    ensures fit { FitInEightBytes _numbers.now }
-{}
-
-/// Splits off the first sealed lists of numbers, of which there are `count`. Returns all their numbers, and what follows.
-///
-/// # Errors
-/// - `Version` if a text begins with another head.
-/// - `Damaged` if a text is shorter than its length says, or has another checksum, or is not a list of numbers.
-/// - `Memory` if an allocation fails.
-pub fn first_lists<'a>(
-    alloc: Global,
-    bytes: &'a [u8],
-    count: u64,
-) -> Result<(Vec<u64>, &'a [u8]), SealFault>
-    ensures lists { IfOk result (λ r. (lists : List (List ℕ)) × (length lists ≡ count) × (r.0.items ≡ numbers_of lists)
-        × (bytes.now ≡ all_sealed (map number_list lists) ++ r.1.now)) }
-    ensures fit { IfOk result (λ r. FitInEightBytes r.0.items) }
-{
-    let mut numbers = Vec::new(alloc);
-    let mut rest = bytes;
-    for _list in 0..count {
-        let (text, after) = first_sealed(rest)?;
-        push_numbers(&mut numbers, text)?;
-        rest = after;
-    }
-    numbers_fit(numbers.as_slice());
-    Ok((numbers, rest))
 }

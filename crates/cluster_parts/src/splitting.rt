@@ -1,33 +1,36 @@
 //! The parts of a block, by partition.
-ghost use Rattle.std.specs.Prelude.{◌≡◌, ◌<◌, ◌++◌, [], if◌then◌else◌, ℕ, List, length, map, IfErr, IfOk, OnOk};
+ghost use Rattle.std.specs.Prelude.{◌≡◌, ◌<◌, ◌∷◌, ◌++◌, [], if◌then◌else◌, ℕ, List, length, map, IfErr, IfOk, IsSorted, OnOk};
+ghost use Rattle.std.specs.Ordering.{nat_cmp};
 ghost use Rattle.rdf_core.specs.QuadParts.{QuadParts};
 ghost use Rattle.nquads_core.specs.Lines.{lines};
 ghost use Rattle.nquads_core.specs.Pieces.{HaveStatements, IsFirstMalformed};
 ghost use Rattle.nquads_core.specs.declared.fault.PieceFault.TheVariants.{BadLine};
 ghost use Rattle.algebra_model.specs.Dataset.{names};
 ghost use Rattle.text_pieces.specs.Forms.{AreFormsOf};
-ghost use Rattle.cluster_parts.specs.Hash.{hash, number_bytes};
+ghost use Rattle.cluster_parts.specs.Hash.{hash};
 ghost use Rattle.cluster_parts.specs.Keys.{remainders};
-ghost use Rattle.cluster_parts.specs.Parts.{FitInEightBytes, hashes_in, is_in, number_list, texts_below};
+ghost use Rattle.cluster_parts.specs.NumberList.{FitInEightBytes};
+ghost use Rattle.cluster_parts.specs.Parts.{hashes_in, is_in, texts_below};
 ghost use Rattle.cluster_parts.specs.Known.{counted_part};
 ghost use Rattle.cluster_parts.specs.Numbered.{AreQuadsOf};
 ghost use Rattle.cluster_parts.specs.Output.{AreHashesOf, check_parts};
 
 use crate::graph_names::names_of;
 use crate::hashing::text_hashes;
+use crate::number_lists::{numbers_fit, push_one, push_sealed_list};
 use crate::numbering::{NumberedLines, number_lines};
 use crate::partitions::{is_in, remainders};
 use crate::quad_hashes::distinct_hashes_of;
-use crate::sealing::{numbers_fit, push_number, push_sealed, push_sealed_number};
+use crate::sealing::push_sealed_number;
 use crate::term_lists::push_lines_part;
 use nquads_core::PieceFault;
 use std::alloc::{AllocError, Global};
 use std::hash::RandomState;
 use text_dict::TextDict;
 
-/// Appends a hash as eight bytes, if the partition has it. `part` is the number of its partition.
+/// Appends a hash, if the partition has it. `part` is the number of its partition.
 fn push_if_in(
-    out: &mut Vec<u8>,
+    out: &mut Vec<u64>,
     hash: u64,
     part: u64,
     partitions: u64,
@@ -35,33 +38,32 @@ fn push_if_in(
 ) -> Result<(), AllocError>
     requires some { 0 < partitions }
     ensures appended { OnOk result (out.new.items
-        ≡ out.old.items ++ (if is_in partitions number part then number_bytes hash else [])) }
+        ≡ out.old.items ++ (if is_in partitions number part then hash ∷ [] else [])) }
 {
     if is_in(partitions, number, part) {
-        push_number(out, hash)?;
+        push_one(out, hash)?;
     }
     Ok(())
 }
 
-/// Returns the hashes of a partition, eight bytes each. `parts` are the numbers of the partitions of all hashes.
+/// Returns the hashes of a partition. `parts` are the numbers of the partitions of all hashes.
 fn hashes_part(
     alloc: Global,
     hashes: &[u64],
     parts: &[u64],
     partitions: u64,
     number: u64,
-) -> Result<Vec<u8>, AllocError>
+) -> Result<Vec<u64>, AllocError>
     requires reduced { parts.now ≡ remainders partitions hashes.now }
     requires all { length parts.now ≡ length hashes.now }
     requires some { 0 < partitions }
-    ensures list { IfOk result
-        (λ text. text.items ≡ number_list (hashes_in partitions number hashes.now)) }
+    ensures list { IfOk result (λ chosen. chosen.items ≡ hashes_in partitions number hashes.now) }
 {
-    let mut text = Vec::new(alloc);
+    let mut chosen = Vec::new(alloc);
     for i in 0..hashes.len() {
-        push_if_in(&mut text, hashes[i], parts[i], partitions, number)?;
+        push_if_in(&mut chosen, hashes[i], parts[i], partitions, number)?;
     }
-    Ok(text)
+    Ok(chosen)
 }
 
 /// The graph names of a block, the hashes of its distinct quads, and the numbers of the partitions of its terms, names and quads.
@@ -98,7 +100,7 @@ fn push_part(
     let hashes = counting.quad_hashes.as_slice();
     let parts = counting.quad_parts.as_slice();
     let part = hashes_part(alloc, hashes, parts, partitions, number)?;
-    push_sealed(out, part.as_slice())
+    push_sealed_list(alloc, out, part.as_slice())
 }
 
 /// Finds what is counted of a block.
@@ -119,6 +121,7 @@ fn counting_of(
     ensures all { IfOk result (λ counting. length counting.quad_parts.items ≡ length counting.quad_hashes.items) }
     ensures quads { IfOk result (λ counting. (quads : List QuadParts) → AreQuadsOf quads block.now
         → AreHashesOf quads counting.quad_hashes.items) }
+    ensures ascending { IfOk result (λ counting. IsSorted nat_cmp counting.quad_hashes.items) }
     ensures fit { IfOk result (λ counting. FitInEightBytes counting.quad_hashes.items) }
 {
     let names = names_of(alloc, state, block)?;
@@ -170,7 +173,7 @@ fn parts_of(
     requires read { (quads : List QuadParts) × AreQuadsOf quads block.now }
     requires some { 0 < partitions }
     ensures parts { IfOk result (λ out. (quads : List QuadParts) → AreQuadsOf quads block.now
-        → (hashes : List ℕ) × AreHashesOf quads hashes × FitInEightBytes hashes
+        → (hashes : List ℕ) × AreHashesOf quads hashes × IsSorted nat_cmp hashes × FitInEightBytes hashes
         × (out.items ≡ check_parts partitions block.now.lines quads hashes)) }
 {
     let counting = counting_of(alloc, state, block, partitions)?;
@@ -183,7 +186,8 @@ fn parts_of(
 /// Reads a block of whole lines, and splits what `check` counts of it by partition (`check_parts`).
 ///
 /// The first sealed text is the number of lines, as eight bytes. Then come three sealed texts for each partition: its
-/// distinct terms and its distinct graph names, each on a line of its own, and the hashes of its distinct quads.
+/// distinct terms and its distinct graph names, each on a line of its own, and the hashes of its distinct quads in ascending
+/// order.
 ///
 /// # Requires
 /// There is at least one partition.
@@ -199,7 +203,7 @@ pub fn split_for_check(
 ) -> Result<Vec<u8>, PieceFault>
     requires some { 0 < partitions }
     ensures parts { IfOk result (λ out. (quads : List QuadParts) × (hashes : List ℕ) × HaveStatements (lines block.now) quads
-        × AreHashesOf quads hashes × FitInEightBytes hashes
+        × AreHashesOf quads hashes × IsSorted nat_cmp hashes × FitInEightBytes hashes
         × (out.items ≡ check_parts partitions (length (lines block.now)) quads hashes)) }
     ensures bad_line { IfErr result
         (λ fault. (k : ℕ) → fault ≡ BadLine k → IsFirstMalformed (lines block.now) k) }

@@ -1,11 +1,12 @@
 -- What each command writes for its input (choices of this project).
-use Rattle.std.specs.Prelude.{◌≡◌, ℕ, ◌<◌, Bool, true, false, List, ◌++◌, length, map, Option, Some, None, decimal, codes, ⊤}
+use Rattle.std.specs.Prelude.{◌≡◌, ℕ, ◌<◌, Bool, true, false, List, ◌++◌, length, map, Option, Some, None, decimal, codes, IsSorted, ⊤}
+use Rattle.std.specs.Ordering.{nat_cmp}
 use Rattle.rdf_core.specs.QuadParts.{QuadParts}
 use Rattle.nquads_core.specs.Lines.{lines}
 use Rattle.nquads_core.specs.Pieces.{HaveStatements, IsFirstMalformed}
 use Rattle.cluster_parts.specs.Hash.{number_bytes}
 use Rattle.cluster_parts.specs.Seal.{all_sealed, joined_texts, sealed}
-use Rattle.cluster_parts.specs.Parts.{FitInEightBytes, number_list}
+use Rattle.cluster_parts.specs.NumberList.{FitInEightBytes, number_list}
 use Rattle.cluster_parts.specs.Repeated.{numbers_of, repeated_in, single}
 use Rattle.dict_core.specs.Appearances.{terms_of, first_appearances}
 use Rattle.cluster_parts.specs.Output.{AreFirst, AreHashesOf, IsKept, again_parts, check_parts, distinct_lines, keyed_parts, terms_parts}
@@ -24,6 +25,7 @@ pub record IsSplit (partitions : ℕ) (input output : List ℕ) : Type 0 where
   pub hashes : List ℕ
   pub statements : HaveStatements (lines input) quads
   pub hashed : AreHashesOf quads hashes
+  pub ascending : IsSorted nat_cmp hashes
   pub fit : FitInEightBytes hashes
   pub parts : output ≡ check_parts partitions (length (lines input)) quads hashes
 

@@ -4,7 +4,7 @@ ghost use Rattle.nquads_core.specs.Lines.{lines};
 ghost use Rattle.nquads_core.specs.Pieces.{HaveStatements, IsFirstMalformed};
 ghost use Rattle.rdf_core.specs.QuadParts.{QuadParts};
 ghost use Rattle.cluster_parts.specs.Seal.{all_sealed, joined_texts};
-ghost use Rattle.cluster_parts.specs.Parts.{FitInEightBytes, number_list};
+ghost use Rattle.cluster_parts.specs.NumberList.{FitInEightBytes, number_list};
 ghost use Rattle.cluster_parts.specs.Output.{again_parts};
 ghost use Rattle.cluster_parts.specs.Repeated.{numbers_of};
 ghost use Rattle.part_core.specs.Output.{HasPartitions, IsAgain, IsBadBlock, IsBadInput, IsCounted, IsFirstOf, IsKeptOf, IsOutput, IsRepeatedIn, IsPlanned, IsQuadSplit, IsSplit, IsTermSplit, IsUnsealed, limit_word, merge_line};

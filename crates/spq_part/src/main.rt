@@ -13,7 +13,7 @@ use std::io::ErrorKind;
 use std::process::ExitCode;
 
 /// The version, as `--version` prints it.
-const VERSION: &[u8] = b"spq-part 1 0.1.0\n";
+const VERSION: &[u8] = b"spq-part 2 0.1.0\n";
 
 /// Returns the words of the command line.
 fn words_of(rt: &HostRuntime) -> Result<Vec<String>, PartFault> {

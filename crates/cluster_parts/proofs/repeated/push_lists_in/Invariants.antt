@@ -1,7 +1,7 @@
 use Rattle.std.proofs.Common.{◌≡◌, ◌++◌, filter, map, nat_eq, take}
 use Rattle.indexmap.specs.IndexSet.{contains}
 use Rattle.cluster_parts.specs.Known.{items_of}
-use Rattle.cluster_parts.specs.Parts.{number_list}
+use Rattle.cluster_parts.specs.NumberList.{number_list}
 use Rattle.cluster_parts.specs.Seal.{all_sealed}
 use Rattle.cluster_parts.proofs.repeated.push_lists_in.Given as goal
 

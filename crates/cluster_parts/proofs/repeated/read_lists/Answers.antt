@@ -1,6 +1,6 @@
 use Rattle.std.proofs.Common.{◌++◌, ap, map, sym, ◌∙◌}
 use Rattle.cluster_parts.specs.Known.{items_of}
-use Rattle.cluster_parts.specs.Parts.{number_list}
+use Rattle.cluster_parts.specs.NumberList.{number_list}
 use Rattle.cluster_parts.specs.Seal.{all_sealed}
 use Rattle.cluster_parts.proofs.PartSteps.{one_more_list, shorter}
 use Rattle.cluster_parts.proofs.repeated.read_lists.Goals as goal

@@ -1,7 +1,7 @@
 use Rattle.std.proofs.Common.{◌++◌, ap, filter, length, map, nat_eq, subst, ◌∙◌}
 use Rattle.indexmap.specs.IndexSet.{contains}
 use Rattle.cluster_parts.specs.Known.{items_of}
-use Rattle.cluster_parts.specs.Parts.{FitInEightBytes, number_list}
+use Rattle.cluster_parts.specs.NumberList.{FitInEightBytes, number_list}
 use Rattle.cluster_parts.specs.Repeated.{is_repeated, numbers_of, single}
 use Rattle.cluster_parts.specs.Seal.{all_sealed}
 use Rattle.cluster_parts.proofs.PartSteps.{repeated_lists}

@@ -1,5 +1,5 @@
 use Rattle.std.proofs.Common.{subst, IsPermutation}
-use Rattle.cluster_parts.specs.Parts.{FitInEightBytes}
+use Rattle.cluster_parts.specs.NumberList.{FitInEightBytes}
 use Rattle.cluster_parts.proofs.repeated.sorted_numbers.Goals as goal
 
 pub returns : goal.returns

@@ -6,4 +6,4 @@ pub returns-in-Ok-clause-parts : goal.returns-in-Ok-clause-parts
 returns-in-Ok-clause-parts c =
     let read = c.in_ok-numbered.ensures.quads in
     let made = c.in-Ok.ensures.parts read.0 read.2 in
-    (read.0, made.0, read.1, made.1, made.2, made.3 ∙ ap (λ n. check_parts c.args.partitions n read.0 made.0) c.in_ok-numbered.ensures.count)
+    (read.0, made.0, read.1, made.1, made.2, made.3, made.4 ∙ ap (λ n. check_parts c.args.partitions n read.0 made.0) c.in_ok-numbered.ensures.count)

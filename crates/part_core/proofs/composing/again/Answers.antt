@@ -1,5 +1,5 @@
 use Rattle.std.proofs.Common.{ap, subst, ◌∙◌}
-use Rattle.cluster_parts.specs.Parts.{FitInEightBytes}
+use Rattle.cluster_parts.specs.NumberList.{FitInEightBytes}
 use Rattle.cluster_parts.specs.Output.{again_parts}
 use Rattle.part_core.proofs.composing.again.Goals as goal
 

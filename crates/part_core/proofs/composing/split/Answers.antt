@@ -7,6 +7,7 @@ returns-in-Ok-clause-output c =
       hashes = found.1;
       statements = found.2;
       hashed = found.3;
-      fit = found.4;
-      parts = found.5;
+      ascending = found.4;
+      fit = found.5;
+      parts = found.6;
     }

@@ -1,7 +1,7 @@
 use Rattle.std.proofs.Common.{rules, ◌≡◌, ◌∷◌, ◌++◌, [], refl, arith, length-append, subst, ◌∙◌}
-use Rattle.cluster_parts.specs.Parts.{FitInEightBytes}
+use Rattle.cluster_parts.specs.NumberList.{FitInEightBytes}
 use Rattle.cluster_parts.proofs.PartSteps.{more_numbers, one_more_list}
-use Rattle.cluster_parts.proofs.sealing.first_lists.Goals as goal
+use Rattle.cluster_parts.proofs.number_lists.first_lists.Goals as goal
 
 pub loop-list-init : goal.loop-list-init
 loop-list-init c = ([], refl, c.new-numbers.ensures.items, refl)

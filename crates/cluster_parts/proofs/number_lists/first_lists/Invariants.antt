@@ -1,8 +1,8 @@
 use Rattle.std.proofs.Common.{◌≡◌, ◌++◌, ℕ, List, length, map}
-use Rattle.cluster_parts.specs.Parts.{number_list}
+use Rattle.cluster_parts.specs.NumberList.{number_list}
 use Rattle.cluster_parts.specs.Repeated.{numbers_of}
 use Rattle.cluster_parts.specs.Seal.{all_sealed}
-use Rattle.cluster_parts.proofs.sealing.first_lists.Given as goal
+use Rattle.cluster_parts.proofs.number_lists.first_lists.Given as goal
 
 abbrev pub invariant-loop-list : goal.invariant-loop-list
 invariant-loop-list l =

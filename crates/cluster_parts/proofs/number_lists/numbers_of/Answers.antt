@@ -1,6 +1,6 @@
 use Rattle.std.proofs.Common.{◌++◌, ap, sym, ◌∙◌}
-use Rattle.cluster_parts.specs.Parts.{number_list}
-use Rattle.cluster_parts.proofs.sealing.numbers_of.Goals as goal
+use Rattle.cluster_parts.specs.NumberList.{number_list}
+use Rattle.cluster_parts.proofs.number_lists.numbers_of.Goals as goal
 
 pub returns : goal.returns
 returns c =
