@@ -153,7 +153,7 @@ module _ (w : ℕ) (D : List QuadParts) where
 module _ (terms : List Term) (index : List NumQuad) (w v : ℕ) (graphs : List ℕ) (are : AreGraphs terms index graphs) where
   -- what is computed in one of the graphs
   pub needed_in_graph : (A : Algebra) (k n : ℕ) → slice_get graphs k ≡ Some n → (t : Term) → Needed terms index w (Some n) A t → NeededIn terms index w (each_graph v) A t
-  needed_in_graph A k n at t m = (term_at terms n, ((are k n at).1, m))
+  needed_in_graph A k n at t m = (term_at terms n, ((are.1 k n at).1, m))
 
   -- some graph is among them
   first_graph : 0 < length graphs → (n : ℕ) × (slice_get graphs 0 ≡ Some n)

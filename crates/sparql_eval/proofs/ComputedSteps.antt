@@ -19,7 +19,7 @@ use Rattle.sparql_eval.specs.Computed.{InSomeGraph, IsComputed, IsValue, TakesOn
 use Rattle.sparql_eval.specs.Evaluated.{IsEvaluated, solutions_of}
 use Rattle.sparql_eval.specs.TreeSolutions.{AreGraphs, Needed, NeededIn}
 use Rattle.sparql_eval.proofs.EvaluateSteps.{active_kept, index_kept}
-use Rattle.sparql_eval.proofs.GraphSteps.{graph_below, names_read}
+use Rattle.sparql_eval.proofs.GraphSteps.{graph_below, names_once, names_read}
 use Rattle.sparql_eval.proofs.ReadingLaws.{Each-at}
 use Rattle.sparql_eval.proofs.TakingLaws.{takes_more, takes_none, takes_twice}
 
@@ -91,9 +91,12 @@ contains_mapped f (y ∷ xs) zero x e = let p : y ≡ x = cc in (0, omega arith,
 contains_mapped f (y ∷ xs) (suc k) x e = let r = contains_mapped f xs k x e in (suc r.0, omega (arith, r.1), r.2)
 
 pub all_graphs : (terms : List Term) → AreDistinct terms → (index : List NumQuad) → AreBelow (length terms) index → (graphs : List ℕ) → IsPermutation (without_repeats nat_eq (graph_names index)) graphs → AreGraphs terms index graphs
-all_graphs terms once index below graphs are k n at =
+all_graphs terms once index below graphs are =
     let named = map (term_at terms) graphs in
     let D = names (quads_at terms index) in (
-      Each-at (λ g. g < length terms) graphs k n (graph_below terms once index below graphs are) at,
-      Contains-permutation named D (term_at terms n) (IsPermutation-sym D named (names_read terms once index below graphs are)) (contains_mapped (term_at terms) graphs k n at),
+      names_once terms once index below graphs are,
+      λ k n at. (
+        Each-at (λ g. g < length terms) graphs k n (graph_below terms once index below graphs are) at,
+        Contains-permutation named D (term_at terms n) (IsPermutation-sym D named (names_read terms once index below graphs are)) (contains_mapped (term_at terms) graphs k n at),
+      ),
     )

@@ -1,7 +1,7 @@
 -- The numbers of named graphs, and rows joined with the name of a graph.
-use Rattle.std.proofs.Common.{◌≡◌, ℕ, ◌+◌, ◌<◌, ◌≤◌, Bool, true, false, cond, ◌||◌, List, [], ◌∷◌, ◌++◌, length, map, take, filter_map, nat_eq, nat_cmp, eq-eqb, ne_eqb, get_or, slice_get, Contains, Option, None, Some, MatchOption, Result, Ok, Err, is_ok, ⊎_elim, refl, sym, ap, ◌∙◌, subst, IsPermutation, append_assoc, arith}
+use Rattle.std.proofs.Common.{◌≡◌, ℕ, ◌+◌, ◌<◌, ◌≤◌, Bool, true, false, cond, ◌||◌, List, [], ◌∷◌, ◌++◌, length, map, take, filter_map, nat_eq, nat_cmp, eq-eqb, ne_eqb, get_or, slice_get, Contains, Option, None, Some, MatchOption, Result, Ok, Err, is_ok, ⊎_elim, refl, sym, ap, ◌∙◌, subst, Decides, IsPermutation, append_assoc, arith}
 use Rattle.std.specs.Bool.{then_some}
-use Rattle.std.specs.List.{list_any, cons_option, All}
+use Rattle.std.specs.List.{list_any, cons_option, All, AllByRecursion, IsDistinct}
 use Rattle.std.specs.Option.{option_map, ForSome}
 use Rattle.std.specs.List.Sorted.{IsBinarySearchResult, IsStrictlyIncreasing}
 use Rattle.std.proofs.lemmas.Bool.{cases_lt}
@@ -10,17 +10,17 @@ use Rattle.std.proofs.lemmas.List.Elements.{All-head, All-tail, All-cons}
 use Rattle.std.proofs.lemmas.List.{get_or_default}
 use Rattle.std.proofs.lemmas.List.Folds.{list_any_at, list_any_none}
 use Rattle.std.proofs.lemmas.List.Sorted.{IsPermutation-map, IsPermutation-trans, IsPermutation-refl, searched}
-use Rattle.std.proofs.lemmas.Map.Keys.{non_decreasing_from_sorted, sorted_from_strictly_increasing}
+use Rattle.std.proofs.lemmas.Map.Keys.{IsDistinct-IsPermutation, non_decreasing_from_sorted, sorted_from_strictly_increasing}
 use Rattle.rdf_core.specs.declared.term.Term.{Term}
 use Rattle.rdf_core.specs.QuadParts.{QuadParts}
 use Rattle.rdf_core.proofs.TermLaws.{term_eq, term_decides}
-use Rattle.algebra_model.specs.Bag.{without_repeats}
+use Rattle.algebra_model.specs.Bag.{IsWithoutRepeats, without_repeats}
 use Rattle.algebra_model.specs.Dataset.{names}
 use Rattle.algebra_model.specs.Operators.{join}
 use Rattle.algebra_model.specs.Renaming.{Each}
 use Rattle.algebra_model.specs.Solution.{Solution, is_compatible, merge}
 use Rattle.algebra_model.proofs.RangeLaws.{Each-IsSameBag, Each-without_repeats}
-use Rattle.algebra_model.proofs.RepeatLaws.{any-map}
+use Rattle.algebra_model.proofs.RepeatLaws.{IsWithoutRepeats-without_repeats, any-map}
 use Rattle.algebra_model.proofs.SetLaws.{alike_from_set, set_from_permutation}
 use Rattle.dict_core.specs.Dict.{AreDistinct, term_at}
 use Rattle.dict_core.specs.NumQuad.{AreBelow, IsBelow, quads_at}
@@ -31,6 +31,7 @@ use Rattle.row_core.proofs.TurnLaws.{join-take}
 use Rattle.sparql_eval.specs.GraphNumbers.{IsGraphNumber}
 use Rattle.sparql_eval.proofs.ReadingLaws.{apart, equal_by_number, number_known, number_read}
 use Rattle.sparql_eval.proofs.PatternSteps.{not_at}
+use Rattle.sparql_eval.proofs.UnboundLaws.{neither}
 
 -- ---- a row joined with the row of the name
 
@@ -87,6 +88,19 @@ all_of : (P : ℕ → Type 0) (xs : List ℕ) → Each P xs → All P xs
 all_of P [] h = λ k d low. absurd (omega arith)
 all_of P (x ∷ xs) h = All-cons P x xs h.0 (all_of P xs h.1)
 
+module _ {X : Type 0} (same : X → X → Bool) where
+  pub symmetric : ((x y : X) → Decides (same x y) (x ≡ y)) → (x y : X) → same x y ≡ same y x
+  symmetric decides x y = Rattle.std.specs.Cmp.both_ways (same x y) (same y x) (λ e. (decides y x).1 (sym ((decides x y).0 e))) (λ e. (decides x y).1 (sym ((decides y x).0 e)))
+
+  distinct_once : (xs : List X) → IsWithoutRepeats same xs → IsDistinct same xs
+  unfolding IsDistinct
+  distinct_once [] h = tt
+  distinct_once (x ∷ xs) h = (none xs h.0, distinct_once xs h.1)
+    where
+      none : (ys : List X) → list_any (same x) ys ≡ false → AllByRecursion (λ y. same x y ≡ false) ys
+      none [] e = tt
+      none (y ∷ ys) e = let p = neither (same x y) (list_any (same x) ys) e in (p.0, none ys p.1)
+
 module _ (terms : List Term) (once : AreDistinct terms) (index : List NumQuad) (below : AreBelow (length terms) index) (graphs : List ℕ) (are : IsPermutation (without_repeats nat_eq (graph_names index)) graphs) where
   pub graph_below : Each (λ g. g < length terms) graphs
   graph_below = Each-IsSameBag (λ g. g < length terms) (without_repeats nat_eq (graph_names index)) graphs are (Each-without_repeats (λ g. g < length terms) nat_eq (graph_names index) (names_below (length terms) index below))
@@ -99,12 +113,14 @@ module _ (terms : List Term) (once : AreDistinct terms) (index : List NumQuad) (
       (subst (λ l. IsPermutation (without_repeats term_eq l) (map (term_at terms) (without_repeats nat_eq (graph_names index)))) (sym (names_mapped terms index)) mapped)
       (IsPermutation-map (term_at terms) (without_repeats nat_eq (graph_names index)) graphs are)
 
-  symmetric : (x y : ℕ) → nat_eq x y ≡ nat_eq y x
-  symmetric x y = Rattle.std.specs.Cmp.both_ways (nat_eq x y) (nat_eq y x) (λ e. (Decides-eqb y x).1 (sym ((Decides-eqb x y).0 e))) (λ e. (Decides-eqb x y).1 (sym ((Decides-eqb y x).0 e)))
+  pub names_once : IsDistinct term_eq (map (term_at terms) graphs)
+  names_once =
+      IsDistinct-IsPermutation term_eq (symmetric term_eq term_decides) (names (quads_at terms index)) (map (term_at terms) graphs) names_read
+      (distinct_once term_eq (names (quads_at terms index)) (IsWithoutRepeats-without_repeats term_eq (filter_map (λ (q : QuadParts). q.g) (quads_at terms index))))
 
   among : (n : ℕ) → n < length terms → (gs : List ℕ) → Each (λ g. g < length terms) gs → list_any (λ g. term_eq (term_at terms n) (term_at terms g)) gs ≡ list_any (λ g. nat_eq g n) gs
   among n low [] h = refl
-  among n low (g ∷ gs) h = λ i. (equal_by_number terms once n g low h.0 ∙ symmetric n g) i || among n low gs h.1 i
+  among n low (g ∷ gs) h = λ i. (equal_by_number terms once n g low h.0 ∙ symmetric nat_eq Decides-eqb n g) i || among n low gs h.1 i
 
   -- a name is the name of some graph exactly if its number is
   pub name_found : (t : Term) (n : ℕ) → n < length terms → term_at terms n ≡ t → list_any (term_eq t) (names (quads_at terms index)) ≡ list_any (λ g. nat_eq g n) graphs

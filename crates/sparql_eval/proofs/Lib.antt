@@ -26,6 +26,7 @@ mod UnboundLaws
 mod MentionSteps
 mod OutwardLaws
 mod ExtendLaws
+mod EachJoinLaws
 mod PossibleLaws
 mod PossibleSteps
 mod OutwardSteps

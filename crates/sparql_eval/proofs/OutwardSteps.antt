@@ -1,9 +1,11 @@
 -- Operators that are applied to the rows of all graphs of a GRAPH with a variable.
 use Rattle.std.proofs.Common.{◌≡◌, ◌⊎◌, ℕ, zero, suc, ◌<◌, Bool, true, false, cond, not, ◌&&◌, List, [], ◌∷◌, ◌++◌, get_or, length, map, filter, flat_map, replicate, set, slice_get, nat_eq, Contains, Option, None, Some, Result, IfOk, inl, inr, ⊎_elim, refl, sym, ◌∙◌, subst, arith}
+use Rattle.std.specs.List.{IsDistinct}
 use Rattle.std.proofs.lemmas.Bool.{false≢true}
 use Rattle.std.proofs.lemmas.List.{map-append}
 use Rattle.std.proofs.lemmas.List.Elements.{Contains-append_cases}
 use Rattle.std.proofs.lemmas.List.Sorted.{Contains-permutation, IsPermutation-map, IsPermutation-sym, IsPermutation-trans}
+use Rattle.std.proofs.lemmas.Map.Keys.{IsDistinct-tail}
 use Rattle.std.proofs.lemmas.Result.{IfOk-weaker}
 use Rattle.rdf_core.specs.declared.term.Term.{Term}
 use Rattle.rdf_core.specs.QuadParts.{QuadParts}
@@ -30,7 +32,8 @@ use Rattle.sparql_eval.specs.TreeSolutions.{AreGraphs, NeededIn, solutions_in, t
 use Rattle.sparql_eval.specs.declared.equalities.Equality.{Equality}
 use Rattle.sparql_eval.proofs.ClosedSteps.{as_bag, joined_in, joined_left}
 use Rattle.sparql_eval.proofs.ComputedSteps.{takes_two}
-use Rattle.sparql_eval.proofs.EvaluateSteps.{after_left, after_one, as_whole, index_kept, tree_kept, left_join_keeps, minus_keeps, union_keeps, extend_keeps}
+use Rattle.sparql_eval.proofs.EachJoinLaws.{joined_each}
+use Rattle.sparql_eval.proofs.EvaluateSteps.{after_left, after_one, as_whole, index_kept, tree_kept, join_keeps, left_join_keeps, minus_keeps, union_keeps, extend_keeps}
 use Rattle.sparql_eval.proofs.ExtendLaws.{extend_in}
 use Rattle.sparql_eval.proofs.FittingSteps.{where_all, where_filtered, where_joined, where_whole}
 use Rattle.sparql_eval.proofs.OutwardLaws.{filter_in, left_join_in, merged_elsewhere, minus_in, union_in, val_elsewhere}
@@ -126,19 +129,22 @@ apart_parts false b h = absurd (false≢true h)
 -- ---- graphs, if the dictionary grows
 
 module _ (terms now : List Term) (grown : IsGrown terms now) (index : List NumQuad) (below : AreBelow (length terms) index) where
-  pub graphs_kept : (graphs : List ℕ) → AreGraphs terms index graphs → AreGraphs now index graphs
-  graphs_kept graphs are k n at =
-      let g = are k n at in
-      let kept = number_kept terms now grown n g.0 in
-      (kept.0, subst (λ (Q : List QuadParts). Contains (names Q) (term_at now n)) (sym (index_kept terms now grown index below).1) (subst (λ (t : Term). Contains (names (quads_at terms index)) t) (sym kept.1) g.1))
-
   names_kept : (graphs : List ℕ) → ((k n : ℕ) → slice_get graphs k ≡ Some n → n < length terms) → map (term_at now) graphs ≡ map (term_at terms) graphs
   names_kept [] low = refl
   names_kept (n ∷ graphs) low = λ i. (number_kept terms now grown n (low 0 n refl)).1 i ∷ names_kept graphs (λ k m at. low (suc k) m at) i
 
+  pub graphs_kept : (graphs : List ℕ) → AreGraphs terms index graphs → AreGraphs now index graphs
+  graphs_kept graphs are = (
+    subst (IsDistinct term_eq) (sym (names_kept graphs (λ k n at. (are.1 k n at).0))) are.0,
+    λ k n at.
+        let g = are.1 k n at in
+        let kept = number_kept terms now grown n g.0 in
+        (kept.0, subst (λ (Q : List QuadParts). Contains (names Q) (term_at now n)) (sym (index_kept terms now grown index below).1) (subst (λ (t : Term). Contains (names (quads_at terms index)) t) (sym kept.1) g.1)),
+  )
+
   pub solutions_kept : (w v : ℕ) (graphs : List ℕ) → AreGraphs terms index graphs → (A : Algebra) → solutions_in now index w v graphs A ≡ solutions_in terms index w v graphs A
   solutions_kept w v graphs are A =
-      (λ i. flat_map (λ t. join term_eq (eval w ((index_kept terms now grown index below).1 i) (Some t) A) (named w v t)) (names_kept graphs (λ k n at. (are k n at).0) i))
+      (λ i. flat_map (λ t. join term_eq (eval w ((index_kept terms now grown index below).1 i) (Some t) A) (named w v t)) (names_kept graphs (λ k n at. (are.1 k n at).0) i))
 
   pub needed_in_kept : (w v : ℕ) (A : Algebra) (later : List Term) → TakesOnly (NeededIn now index w (each_graph v) A) now later → TakesOnly (NeededIn terms index w (each_graph v) A) now later
   needed_in_kept w v A later h =
@@ -155,9 +161,32 @@ module _ {E : Type 0} (terms now : List Term) (index : List NumQuad) (below : Ar
       as_bag terms w r (a ++ b) both (IsPermutation-sym both (a ++ b) (union_in w (quads_at terms index) v A B (map (term_at terms) graphs)))
       (after_left terms now w r (λ X Y. X ++ Y) union_keeps a b (solutions_in now index w v graphs B) (solutions_kept terms now h.grown index below w v graphs are B) rows h k)
 
-  pub takes_union : IsGrown terms now → TakesOnly (NeededIn terms index w (each_graph v) A) terms now
+  -- the join of the rows of all graphs
+  joined : v < w → solutions_in terms index w v graphs (Join A B) ≡ join term_eq (solutions_in terms index w v graphs A) (solutions_in terms index w v graphs B)
+  joined low = joined_each term_eq term_decides w v low (λ i. eval w (quads_at terms index) (Some i) A) (λ i. eval w (quads_at terms index) (Some i) B) (map (term_at terms) graphs) are.0
+
+  pub join_each : v < w → (rows : RowList) → IsEvaluated terms w (solutions_in terms index w v graphs A) rows now
+      → IfOk r (λ x. IsEvaluated now rows.width (join term_eq (solutions_of now rows) (solutions_in now index w v graphs B)) x.0 x.1)
+      → IfOk r (λ x. IsEvaluated terms w (solutions_in terms index w v graphs (Join A B)) x.0 x.1)
+  join_each low rows h k =
+      let a = solutions_in terms index w v graphs A in
+      let b = solutions_in terms index w v graphs B in
+      as_whole terms w r (join term_eq a b) (solutions_in terms index w v graphs (Join A B)) (joined low)
+      (after_left terms now w r (join term_eq) join_keeps a b (solutions_in now index w v graphs B) (solutions_kept terms now h.grown index below w v graphs are B) rows h k)
+
+  pub join_each_fitting : v < w → (pairs : List Equality) (rows : RowList) → IsEvaluatedWhere terms w (fits pairs) (solutions_in terms index w v graphs A) rows now
+      → IfOk r (λ x. IsEvaluatedWhere now rows.width (fits pairs) (join term_eq (solutions_of now rows) (solutions_in now index w v graphs B)) x.0 x.1)
+      → IfOk r (λ x. IsEvaluatedWhere terms w (fits pairs) (solutions_in terms index w v graphs (Join A B)) x.0 x.1)
+  join_each_fitting low pairs rows h k =
+      let a = solutions_in terms index w v graphs A in
+      let b = solutions_in terms index w v graphs B in
+      where_whole pairs terms w r (join term_eq a b) (solutions_in terms index w v graphs (Join A B)) (joined low)
+      (where_joined pairs terms now w r a b (solutions_in now index w v graphs B) rows (solutions_kept terms now h.grown index below w v graphs are B) h k)
+
+  -- the terms of both trees
+  pub takes_pair : IsGrown terms now → TakesOnly (NeededIn terms index w (each_graph v) A) terms now
       → IfOk r (λ x. TakesOnly (NeededIn now index w (each_graph v) B) now x.1) → IfOk r (λ x. TakesOnly (NeededIn terms index w (each_graph v) (Union A B)) terms x.1)
-  takes_union grown h k =
+  takes_pair grown h k =
       let V = NeededIn terms index w (each_graph v) A in
       let N = NeededIn terms index w (each_graph v) B in
       let W = NeededIn terms index w (each_graph v) (Union A B) in
@@ -201,8 +230,8 @@ module _ (terms : List Term) (index : List NumQuad) (w v u : ℕ) (e : Expressio
       let first = join term_eq X (named w v i) in
       let rest = solutions_in terms index w v graphs A in
       ⊎_elim
-      (λ c. (i, ((are 0 n refl).1, inr (value_before i X (Some t) c))))
-      (λ c. value_in_some graphs (λ k o at. are (suc k) o at) t c)
+      (λ c. (i, ((are.1 0 n refl).1, inr (value_before i X (Some t) c))))
+      (λ c. value_in_some graphs (IsDistinct-tail term_eq i (map (term_at terms) graphs) are.0, λ k o at. are.1 (suc k) o at) t c)
       (Contains-append_cases (map (val e) first) (map (val e) rest) (Some t) (subst (λ l. Contains l (Some t)) (map-append (val e) first rest) h))
 
   -- the terms of the input, followed by the values

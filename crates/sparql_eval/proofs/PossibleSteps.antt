@@ -2,7 +2,7 @@
 -- needed, and of GRAPH with a variable only the graphs that the rows name.
 use Rattle.std.proofs.Common.{◌≡◌, ℕ, zero, suc, ◌+◌, ◌<◌, Bool, true, false, cond, ◌&&◌, ◌||◌, List, [], ◌∷◌, ◌++◌, length, map, filter, flat_map, get_or, slice_get, take, nat_eq, Contains, Option, None, Some, is_some, option_map, Result, IfOk, IsPermutation, refl, sym, ap, ◌∙◌, subst, arith}
 use Rattle.std.specs.Cmp.{both_ways}
-use Rattle.std.specs.List.{dedup, list_all, list_any}
+use Rattle.std.specs.List.{AllByRecursion, IsDistinct, dedup, list_all, list_any}
 use Rattle.std.specs.Option.{option_eq}
 use Rattle.std.proofs.lemmas.Bool.{and_parts, false≢true}
 use Rattle.std.proofs.lemmas.Bool.Decides.{Decides-eqb}
@@ -227,6 +227,24 @@ contained {X} p (y ∷ xs) k x e = by (p y) k e (λ j. contained p xs j x)
     by true (suc k) e i = let r = i k e in (suc r.0, r.1)
     by false k e i = let r = i k e in (suc r.0, r.1)
 
+module _ {X Y : Type 0} (same : Y → Y → Bool) (f : X → Y) (p : X → Bool) where
+  all_few : (P : Y → Type 0) (xs : List X) → AllByRecursion P (map f xs) → AllByRecursion P (map f (filter p xs))
+  all_few P [] h = tt
+  all_few P (x ∷ xs) h = by (p x) (all_few P xs h.1)
+    where
+      by : (b : Bool) → AllByRecursion P (map f (filter p xs)) → AllByRecursion P (map f (cond b (x ∷ filter p xs) (filter p xs)))
+      by true a = (h.0, a)
+      by false a = a
+
+  distinct_few : (xs : List X) → IsDistinct same (map f xs) → IsDistinct same (map f (filter p xs))
+  unfolding IsDistinct
+  distinct_few [] h = tt
+  distinct_few (x ∷ xs) h = by (p x) (all_few (λ y. same (f x) y ≡ false) xs h.0) (distinct_few xs h.1)
+    where
+      by : (b : Bool) → AllByRecursion (λ y. same (f x) y ≡ false) (map f (filter p xs)) → IsDistinct same (map f (filter p xs)) → IsDistinct same (map f (cond b (x ∷ filter p xs) (filter p xs)))
+      by true a i = (a, i)
+      by false a i = i
+
 get_read_row : (f : ℕ → Term) (μ : Solution ℕ) (v : ℕ) → get_or (read_row f μ) v None ≡ option_map f (get_or μ v None)
 get_read_row f [] v = refl
 get_read_row f (x ∷ μ) zero = refl
@@ -266,9 +284,10 @@ module _ (terms : List Term) (once : AreDistinct terms) (v : ℕ) where
 
 -- the graphs that the rows name are graphs
 pub possible_are : (terms : List Term) → AreDistinct terms → (index : List NumQuad) → AreBelow (length terms) index → (rows : List (Solution ℕ)) (v : ℕ) (found : List ℕ) → ArePossibleIn index rows v found → AreGraphs terms index found
-possible_are terms once index below rows v found h k n at =
-    let r = contained (is_named nat_eq rows v) h.0 k n (subst (λ (l : List ℕ). slice_get l k ≡ Some n) h.1.1.1 at) in
-    all_graphs terms once index below h.0 h.1.0 r.0 n r.1
+possible_are terms once index below rows v found h =
+    let p = is_named nat_eq rows v in
+    let all = all_graphs terms once index below h.0 h.1.0 in
+    subst (AreGraphs terms index) (sym h.1.1.1) (distinct_few term_eq (term_at terms) p h.0 all.0, λ k n at. let r = contained p h.0 k n at in all.1 r.0 n r.1)
 
 -- they have the solutions that are compatible with one of the rows
 module _ {E : Type 0} (terms : List Term) (once : AreDistinct terms) (index : List NumQuad) (below : AreBelow (length terms) index) (w v : ℕ) (low : v < w) (tree : Operator) (others : RowList) (known : AreKnown terms others) where

@@ -1,6 +1,7 @@
 -- The solutions of a tree over an index, read through a dictionary. Only private clauses use these
 -- definitions.
 use Rattle.std.specs.Prelude.{◌≡◌, ℕ, ◌<◌, List, Option, Some, Contains, length, map, flat_map, slice_get}
+use Rattle.std.specs.List.{IsDistinct}
 use Rattle.std.specs.Option.{option_map}
 use Rattle.rdf_core.specs.declared.term.Term.{Term}
 use Rattle.algebra_model.specs.Algebra.{Algebra, GraphName, each_graph}
@@ -34,9 +35,11 @@ Needed terms index w active A = IsComputed w (quads_at terms index) (option_map 
 abbrev pub NeededIn : List Term → List NumQuad → ℕ → GraphName → Algebra → Term → Type 0
 NeededIn terms index w name A t = InSomeGraph (quads_at terms index) name (λ h. IsComputed w (quads_at terms index) h A t)
 
--- each of the numbers is that of the name of a graph
+-- each of the numbers is that of the name of a graph, and no name occurs twice
 abbrev pub AreGraphs : List Term → List NumQuad → List ℕ → Type 0
-AreGraphs terms index graphs = (k n : ℕ) → slice_get graphs k ≡ Some n → (n < length terms) × Contains (names (quads_at terms index)) (term_at terms n)
+AreGraphs terms index graphs =
+    IsDistinct term_eq (map (term_at terms) graphs)
+    × ((k n : ℕ) → slice_get graphs k ≡ Some n → (n < length terms) × Contains (names (quads_at terms index)) (term_at terms n))
 
 -- the solutions in the graphs of these numbers, each joined with the name of its graph
 abbrev pub solutions_in : List Term → List NumQuad → ℕ → ℕ → List ℕ → Algebra → List (Solution Term)

@@ -1,7 +1,9 @@
 //! Operators below GRAPH with a variable, above a part that does not depend on the active graph. They are
 //! applied once to the rows of all graphs.
 ghost use Rattle.std.specs.Prelude.{◌≡◌, ◌<◌, ◌++◌, false, true, length, nat_eq, IfErr, IfOk};
+ghost use Rattle.rdf_core.specs.Equality.{term_eq};
 ghost use Rattle.algebra_model.specs.Algebra.{Extend, Filter, is_within};
+ghost use Rattle.algebra_model.specs.Operators.{join};
 ghost use Rattle.dict_core.specs.NumQuad.{AreBelow};
 ghost use Rattle.row_pieces.specs.How.{HasOneWorker};
 ghost use Rattle.row_pieces.specs.declared.fault.EvalFault.TheVariants.{Memory};
@@ -17,7 +19,9 @@ use crate::equalities::{Equality, with_equalities};
 use crate::evaluator::Evaluator;
 use crate::extensions::extend_with;
 use crate::filters::filter_with;
+use crate::fitted_joins::join_where;
 use crate::forms::is_partly_closed;
+use crate::joins::join_of;
 use crate::mentions::may_mention;
 use crate::separated::Tested;
 use crate::unions::union_of;
@@ -72,6 +76,12 @@ impl<'c, 'i, 'e, R: Threads + Wait, G: Gate + Sync> Evaluator<'c, 'i, 'e, R, G> 
             if is_apart(right, self.width, variable) {
                 let (rows, dict) = self.solve_each(dict, variable, graphs, left)?;
                 return self.solve_minus(dict, None, rows, right);
+            }
+        }
+        if let Operator::Join { left, right } = inner {
+            if is_partly_closed(inner) {
+                let (rows, dict) = self.solve_each(dict, variable, graphs, left)?;
+                return self.solve_each_join(dict, variable, graphs, rows, right);
             }
         }
         self.solve_expression_outward(dict, variable, graphs, inner)
@@ -146,6 +156,35 @@ impl<'c, 'i, 'e, R: Threads + Wait, G: Gate + Sync> Evaluator<'c, 'i, 'e, R, G> 
     {
         let (right, dict) = self.solve_each(dict, variable, graphs, right)?;
         union_of(dict, left, right)
+    }
+
+    /// Joins rows, which bind the variable to the names of their graphs, with those of a tree in each of
+    /// these graphs. Only rows of the same graph are joined.
+    #[cycle(solve)]
+    fn solve_each_join(
+        &self,
+        dict: Dict,
+        variable: usize,
+        graphs: &[u64],
+        left: Rows,
+        right: &Operator,
+    ) -> Result<(Rows, Dict), EvalFault>
+        requires index { AreBelow (length dict) self.now.index.now }
+        requires variable { variable < self.now.width }
+        requires graphs { AreGraphs dict self.now.index.now graphs.now }
+        requires same_width { left.width ≡ self.now.width }
+        requires known_left { AreKnown dict left }
+        requires within { is_within self.now.width (algebra_of right.now) ≡ true }
+        ensures evaluated { IfOk result (λ r. IsEvaluated dict left.width
+            (join term_eq (solutions_of dict left)
+            (solutions_in dict self.now.index.now self.now.width variable graphs.now
+            (algebra_of right.now))) r.0 r.1) }
+        ensures needed { IfOk result (λ r. TakesIn dict self.now.index.now
+            self.now.width variable (algebra_of right.now) r.1) }
+        ensures one_worker { HasOneWorker self.now.context.how.now → IfErr result (λ fault. fault ≡ Memory) }
+    {
+        let (right, dict) = self.solve_each(dict, variable, graphs, right)?;
+        join_of(&self.context, self.state, dict, left, right)
     }
 
     /// Filters the rows of a tree in each of some graphs. Joins leave out pairs of rows in which the
@@ -229,8 +268,56 @@ impl<'c, 'i, 'e, R: Threads + Wait, G: Gate + Sync> Evaluator<'c, 'i, 'e, R, G> 
                 )?;
                 return self.solve_join_where(dict, None, others, left, pairs, tested);
             }
+            if is_partly_closed(inner) {
+                let later = self.tested_after_each(tested, &dict, graphs, right);
+                let (rows, dict) = self.solve_each_where(
+                    dict, variable, graphs, left, pairs, &later,
+                )?;
+                return self.solve_each_join_where(
+                    dict, variable, graphs, rows, right, pairs, tested,
+                );
+            }
         }
         self.solve_each(dict, variable, graphs, inner)
+    }
+
+    /// Joins rows with those of a tree in each of some graphs, as [`solve_each_join`](Self::solve_each_join)
+    /// does. Only the pairs that fit are needed.
+    #[cycle(solve)]
+    fn solve_each_join_where(
+        &self,
+        dict: Dict,
+        variable: usize,
+        graphs: &[u64],
+        left: Rows,
+        right: &Operator,
+        pairs: &[Equality],
+        tested: &Tested<'_>,
+    ) -> Result<(Rows, Dict), EvalFault>
+        requires index { AreBelow (length dict) self.now.index.now }
+        requires variable { variable < self.now.width }
+        requires graphs { AreGraphs dict self.now.index.now graphs.now }
+        requires some { 0 < length graphs.now }
+        requires same_width { left.width ≡ self.now.width }
+        requires known_left { AreKnown dict left }
+        requires within { is_within self.now.width (algebra_of right.now) ≡ true }
+        ensures evaluated { IfOk result (λ r. IsEvaluatedWhere dict left.width (fits pairs.now)
+            (join term_eq (solutions_of dict left)
+            (solutions_in dict self.now.index.now self.now.width variable graphs.now
+            (algebra_of right.now))) r.0 r.1) }
+        ensures needed { IfOk result (λ r. TakesIn dict self.now.index.now
+            self.now.width variable (algebra_of right.now) r.1) }
+        ensures one_worker { HasOneWorker self.now.context.how.now → IfErr result (λ fault. fault ≡ Memory) }
+    {
+        let (right, dict) = self.solve_each_where(
+            dict,
+            variable,
+            graphs,
+            right,
+            pairs,
+            &tested.after_a_join(left.len()),
+        )?;
+        join_where(&self.context, self.state, dict, left, right, pairs, tested)
     }
 
     /// Extends the rows of a tree in each of some graphs.

@@ -31,10 +31,10 @@ use std::thread::Threads;
 ///
 /// Each operator is evaluated once, after its inputs. Within GRAPH with a variable it is evaluated
 /// once for each named graph. An input without a triple pattern outside of an inner GRAPH is
-/// evaluated only once if it is a side of the last join of the group, or its last OPTIONAL or MINUS.
-/// The operators after it are then evaluated once, too, unless their expression may mention the
-/// variable. An operator that reads rows splits them into pieces of `how.rows` rows for
-/// `how.workers` workers.
+/// evaluated only once if it is a side of a join, or an OPTIONAL or MINUS, and no OPTIONAL or MINUS
+/// follows in the group. The operators after it are then evaluated once, too, unless their
+/// expression may mention the variable. An operator that reads rows splits them into pieces of
+/// `how.rows` rows for `how.workers` workers.
 ///
 /// # Requires
 /// - Each number in the index is below the length of the dictionary.

@@ -11,13 +11,16 @@ pub(crate) fn is_empty_pattern(tree: &Operator) -> bool {
     }
 }
 
-/// Returns whether a side of the last operator of a group does not depend on the active graph: either
-/// side of a join, the right side of an OPTIONAL or MINUS. The filters and assignments after it do not
-/// count.
+/// Returns whether a part of a group does not depend on the active graph, and can be evaluated once for all
+/// graphs: either side of a join, the right side of an OPTIONAL or MINUS. Joins, unions, filters and
+/// assignments after it do not count.
 pub(crate) fn is_partly_closed(tree: &Operator) -> bool {
     match tree {
         Operator::Join { left, right } => {
-            is_closed(right) || is_closed(left) && !is_empty_pattern(left)
+            is_closed(right)
+                || is_closed(left) && !is_empty_pattern(left)
+                || is_partly_closed(left)
+                || is_partly_closed(right)
         }
         Operator::LeftJoin { right, .. } => is_closed(right),
         Operator::Minus { right, .. } => is_closed(right),

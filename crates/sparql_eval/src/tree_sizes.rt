@@ -29,6 +29,25 @@ impl<'c, 'i, 'e, R: Threads + Wait, G: Gate + Sync> Evaluator<'c, 'i, 'e, R, G> 
         }
     }
 
+    /// Returns the condition for rows that are joined to those of a tree in the same graph, one of these,
+    /// before it is tested.
+    pub(crate) fn tested_after_each<'t>(
+        &self,
+        tested: &Tested<'t>,
+        dict: &Dict,
+        graphs: &[u64],
+        tree: &Box<Operator>,
+    ) -> Tested<'t> {
+        let mut most: usize = 1;
+        if tested.place.is_counted() {
+            for i in 0..graphs.len() {
+                let rows = self.most_rows(dict, Some(graphs[i]), tree, MOST_HEIGHT);
+                most = most.max(rows);
+            }
+        }
+        tested.after_a_join(most)
+    }
+
     /// Returns the number of rows of a tree, or a larger one. A basic graph pattern is taken to have no more
     /// rows than there are quads.
     fn most_rows(&self, dict: &Dict, active: Option<u64>, tree: &Operator, height: usize) -> usize {

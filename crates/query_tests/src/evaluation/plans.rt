@@ -329,6 +329,11 @@ SELECT ?g ?s ?b { GRAPH ?g { ?s <a:p> ?o GRAPH ?h { ?t <a:p> ?s } BIND(STR(?o) A
 # An equality of a pattern and an inner GRAPH, which is after or before it.
 SELECT ?g ?s ?h ?t { GRAPH ?g { ?s <a:p> ?o GRAPH ?h { ?t <a:p> ?u } FILTER(?o = ?t) } }   => 2: <a:g> <a:x> _:h <a:y> - -; _:h <a:y> <a:g> <a:x> - -
 SELECT ?g ?s ?h ?t { GRAPH ?g { GRAPH ?h { ?t <a:p> ?u } ?s <a:p> ?o FILTER(?o = ?t) } }   => 2: <a:g> <a:x> _:h <a:y> - -; _:h <a:y> <a:g> <a:x> - -
+# Triple patterns on both sides of an inner GRAPH, in the same graph.
+SELECT ?g ?s ?h ?q { GRAPH ?g { ?s <a:p> ?o GRAPH ?h { ?t <a:p> ?s } ?s ?q ?e } }          => 3: <a:g> <a:x> _:h <a:p> - - -; <a:g> <a:x> _:h <a:r> - - -; _:h <a:y> <a:g> <a:p> - - -
+SELECT ?g ?h { GRAPH ?g { ?s <a:p> ?o GRAPH ?h { ?t <a:p> ?s GRAPH <a:g> { ?x <a:p> ?y } ?t <a:p> ?w } ?s <a:p> ?e } } => 2: <a:g> _:h - - - - - - -; _:h <a:g> - - - - - - -
+SELECT ?g ?s ?h ?t { GRAPH ?g { ?s <a:p> ?o GRAPH ?h { ?t <a:p> ?u } ?s <a:p> ?e FILTER(?o = ?t) } } => 2: <a:g> <a:x> _:h <a:y> - - -; _:h <a:y> <a:g> <a:x> - - -
+SELECT * { GRAPH ?g { ?s <a:p> ?o GRAPH ?h { ?t <a:p> ?u } ?y <a:p> ?e FILTER(?o = ?y) } } => 0:
 # A condition that mentions the variable is an error inside of its GRAPH.
 SELECT * { GRAPH ?g { ?s <a:p> ?o GRAPH <a:g> { ?s <a:p> ?u } FILTER(BOUND(?g)) } }       => 0:
 # An inner GRAPH with the same variable: a solution that has another name is left out after OPTIONAL.

@@ -30,8 +30,8 @@ use Rattle.sparql_eval.specs.declared.equalities.Equality.{Equality}
 use Rattle.sparql_eval.specs.TreeSolutions.{AreGraphs, Needed, NeededIn, graph_solutions, solutions_in, tree_solutions}
 use Rattle.sparql_eval.proofs.NamedSteps.{all_named, each_more}
 use Rattle.sparql_eval.proofs.ClosedSteps.{as_bag, closed_in, joined_in, joined_left, names_evaluated, no_graphs, none_in, some_graphs, takes_as_each, takes_closed, takes_then, takes_turned}
-use Rattle.sparql_eval.proofs.FittingSteps.{where_all, where_any, where_any_ok, where_filtered, where_joined, where_whole}
-use Rattle.sparql_eval.proofs.OutwardSteps.{apart_parts, extend_each, filter_each, graphs_kept, join_left_where, join_right_where, left_join_each, minus_each, takes_each_values, takes_union, union_each}
+use Rattle.sparql_eval.proofs.FittingSteps.{where_all, where_any, where_any_ok, where_filtered, where_joined, where_right, where_whole}
+use Rattle.sparql_eval.proofs.OutwardSteps.{apart_parts, extend_each, filter_each, graphs_kept, join_each, join_each_fitting, join_left_where, join_right_where, left_join_each, minus_each, takes_each_values, takes_pair, union_each}
 use Rattle.sparql_eval.proofs.PossibleSteps.{after_possible, fits_may_join, join_drops, left_join_drops, meets_may_join, minus_drops, next_left, next_right, possible_are, possible_suffice, where_possible}
 use Rattle.sparql_eval.proofs.ReadingLaws.{Known, all_taken, grown_itself, grown_twice, read_by, rows_kept}
 use Rattle.sparql_eval.proofs.EvaluateSteps.{active_kept, after_left, after_one, after_right, all_below, as_whole, index_kept, tree_kept, join_keeps, left_join_keeps, union_keeps, minus_keeps, filter_keeps, extend_keeps, project_keeps, distinct_keeps}
@@ -381,7 +381,7 @@ solve_all-returns-clause-evaluated g t c =
 pub solve_once-solve_join-requires-clause-known_left : goal.solve_once-solve_join-requires-clause-known_left
 solve_once-solve_join-requires-clause-known_left g t c κs within =
     let s = c.args.self.now in
-    (names_evaluated c.args.dict s.width c.args.variable c.args.graphs.now (λ k n at. (c.requires.graphs k n at).0) c.in_ok-names.names c.in_ok-names.ensures.width c.in_ok-names.ensures.rows).known
+    (names_evaluated c.args.dict s.width c.args.variable c.args.graphs.now (λ k n at. (c.requires.graphs.1 k n at).0) c.in_ok-names.names c.in_ok-names.ensures.width c.in_ok-names.ensures.rows).known
 
 pub solve_once-returns-clause-evaluated : goal.solve_once-returns-clause-evaluated
 solve_once-returns-clause-evaluated g t c =
@@ -390,7 +390,7 @@ solve_once-returns-clause-evaluated g t c =
     let C = algebra_of c.args.inner.now in
     let A = flat_map (named s.width c.args.variable) (map (term_at terms) c.args.graphs.now) in
     let B = tree_solutions terms s.index.now s.width None c.args.inner.now in
-    let names = names_evaluated terms s.width c.args.variable c.args.graphs.now (λ k n at. (c.requires.graphs k n at).0) c.in_ok-names.names c.in_ok-names.ensures.width c.in_ok-names.ensures.rows in
+    let names = names_evaluated terms s.width c.args.variable c.args.graphs.now (λ k n at. (c.requires.graphs.1 k n at).0) c.in_ok-names.names c.in_ok-names.ensures.width c.in_ok-names.ensures.rows in
     as_whole terms s.width c.solve_join.result (join term_eq A B) (solutions_in terms s.index.now s.width c.args.variable c.args.graphs.now C)
     (closed_in s.width (quads_at terms s.index.now) c.args.variable (map (term_at terms) c.args.graphs.now) C c.requires.closed)
     (after_left terms terms s.width c.solve_join.result (join term_eq) join_keeps A B B refl c.in_ok-names.names names c.solve_join.ensures.evaluated)
@@ -501,7 +501,7 @@ solve_in_turn-solve-requires-clause-active g t c κs within =
     let graphs = c.args.graphs.now in
     let n = get_or graphs c.loop-i.i 0 in
     let at : slice_get graphs c.loop-i.i ≡ Some n = slice_get-get_or graphs c.loop-i.i 0 (omega arith) in
-    let low = (c.requires.graphs c.loop-i.i n at).0 in
+    let low = (c.requires.graphs.1 c.loop-i.i n at).0 in
     (active_kept terms c.loop-i.dict c.loop-i.invariant.grown (Some n) (λ m e. let p : n ≡ m = cc in subst (λ (x : ℕ). x < length terms) p low)).0
 
 pub solve_in_turn-loop-i-init : goal.solve_in_turn-loop-i-init
@@ -529,7 +529,7 @@ solve_in_turn-loop-i-preserved g t c =
     let graphs = c.args.graphs.now in
     let n = get_or graphs c.loop-i.i 0 in
     let at : slice_get graphs c.loop-i.i ≡ Some n = slice_get-get_or graphs c.loop-i.i 0 (omega arith) in
-    let is = c.requires.graphs c.loop-i.i n at in
+    let is = c.requires.graphs.1 c.loop-i.i n at in
     let low = is.0 in
     let got = subst (λ (A : List (Solution Term)). IsEvaluated now s.width A c.in_ok-rows.rows later)
     (tree_kept terms now was.grown s.index.now s.width (Some n) tree c.requires.index (λ m e. let p : n ≡ m = cc in subst (λ (x : ℕ). x < length terms) p low)) h in
@@ -1479,7 +1479,7 @@ solve_outward-returns-in-Union-clause-needed g t c =
     let is : algebra_of c.args.inner.now ≡ algebra.Union L R =
     ap algebra_of c.in-Union.is ∙ union_denotes c.in-Union.left c.in-Union.right ∙ (λ i. algebra.Union (algebra_of ((sym c.deref.ensures) i)) (algebra_of ((sym c.deref-in-Union.ensures) i))) in
     takes_as_each terms s.index.now s.width v c.solve_each_union.result (algebra_of c.args.inner.now) (algebra.Union L R) is
-    (takes_union terms c.in_ok-rows.dict s.index.now c.requires.index s.width v graphs c.requires.graphs c.solve_each_union.result L R c.in_ok-rows.ensures.evaluated.grown c.in_ok-rows.ensures.needed c.solve_each_union.ensures.needed)
+    (takes_pair terms c.in_ok-rows.dict s.index.now c.requires.index s.width v graphs c.requires.graphs c.solve_each_union.result L R c.in_ok-rows.ensures.evaluated.grown c.in_ok-rows.ensures.needed c.solve_each_union.ensures.needed)
 
 pub solve_outward-solve_left_join-requires-clause-index : goal.solve_outward-solve_left_join-requires-clause-index
 solve_outward-solve_left_join-requires-clause-index g t c κs within = (index_kept c.args.dict c.in_ok-rows-2.dict c.in_ok-rows-2.ensures.evaluated.grown c.args.self.now.index.now c.requires.index).0
@@ -1676,3 +1676,134 @@ pub solve_each_where-returns-clause-evaluated : goal.solve_each_where-returns-cl
 solve_each_where-returns-clause-evaluated g t c =
     let s = c.args.self.now in
     where_any_ok c.args.pairs.now c.args.dict s.width c.solve_each.result (solutions_in c.args.dict s.index.now s.width c.args.variable c.args.graphs.now (algebra_of c.args.inner.now)) c.solve_each.ensures.evaluated
+
+-- ---- a join of the rows of all graphs
+
+pub solve_each_join-join_of-requires-clause-known_left : goal.solve_each_join-join_of-requires-clause-known_left
+solve_each_join-join_of-requires-clause-known_left g t c κs within = (rows_kept c.args.dict c.in_ok-right.dict c.in_ok-right.ensures.evaluated.grown c.args.left.rows c.requires.known_left).0
+
+pub solve_each_join-join_of-requires-clause-same_width : goal.solve_each_join-join_of-requires-clause-same_width
+solve_each_join-join_of-requires-clause-same_width g t c κs within = c.requires.same_width ∙ sym c.in_ok-right.ensures.evaluated.wide
+
+pub solve_each_join-join_of-requires-clause-known_right : goal.solve_each_join-join_of-requires-clause-known_right
+solve_each_join-join_of-requires-clause-known_right g t c κs within = c.in_ok-right.ensures.evaluated.known
+
+pub solve_each_join-returns-clause-evaluated : goal.solve_each_join-returns-clause-evaluated
+solve_each_join-returns-clause-evaluated g t c =
+    let s = c.args.self.now in
+    after_right c.args.dict c.in_ok-right.dict s.width c.join_of.result (join term_eq) join_keeps (solutions_in c.args.dict s.index.now s.width c.args.variable c.args.graphs.now (algebra_of c.args.right.now)) c.args.left c.in_ok-right.right c.requires.same_width c.requires.known_left c.in_ok-right.ensures.evaluated c.join_of.ensures.evaluated
+
+pub solve_each_join-returns-clause-needed : goal.solve_each_join-returns-clause-needed
+solve_each_join-returns-clause-needed g t c =
+    let s = c.args.self.now in
+    takes_still (NeededIn c.args.dict s.index.now s.width (each_graph c.args.variable) (algebra_of c.args.right.now)) c.args.dict c.in_ok-right.dict c.join_of.result c.in_ok-right.ensures.needed c.join_of.ensures.same_dict
+
+pub solve_each_join-returns-clause-one_worker : goal.solve_each_join-returns-clause-one_worker
+solve_each_join-returns-clause-one_worker g t c = c.join_of.ensures.one_worker
+
+pub solve_outward-solve_each_join-requires-clause-index : goal.solve_outward-solve_each_join-requires-clause-index
+solve_outward-solve_each_join-requires-clause-index g t c κs within = (index_kept c.args.dict c.in_ok-rows-4.dict c.in_ok-rows-4.ensures.evaluated.grown c.args.self.now.index.now c.requires.index).0
+
+pub solve_outward-solve_each_join-requires-clause-graphs : goal.solve_outward-solve_each_join-requires-clause-graphs
+solve_outward-solve_each_join-requires-clause-graphs g t c κs within =
+    graphs_kept c.args.dict c.in_ok-rows-4.dict c.in_ok-rows-4.ensures.evaluated.grown c.args.self.now.index.now c.requires.index c.args.graphs.now c.requires.graphs
+
+pub solve_outward-solve_each_join-requires-clause-within : goal.solve_outward-solve_each_join-requires-clause-within
+solve_outward-solve_each_join-requires-clause-within g t c κs within =
+    subst (λ (T : Operator). is_within c.args.self.now.width (algebra_of T) ≡ true) (sym c.deref-then-is_partly_closed-2.ensures) (join_within c.args.self.now.width c.in-Join.left c.in-Join.right c.args.inner.now c.in-Join.is c.requires.within).1
+
+pub solve_outward-returns-then-is_partly_closed-clause-evaluated : goal.solve_outward-returns-then-is_partly_closed-clause-evaluated
+solve_outward-returns-then-is_partly_closed-clause-evaluated g t c =
+    let s = c.args.self.now in
+    let terms = c.args.dict in
+    let v = c.args.variable in
+    let graphs = c.args.graphs.now in
+    let whole : Algebra → List (Solution Term) = λ A. solutions_in terms s.index.now s.width v graphs A in
+    let L = algebra_of c.deref-then-is_partly_closed.result.now in
+    let R = algebra_of c.deref-then-is_partly_closed-2.result.now in
+    let is : algebra_of c.args.inner.now ≡ algebra.Join L R =
+    ap algebra_of c.in-Join.is ∙ join_denotes c.in-Join.left c.in-Join.right ∙ (λ i. algebra.Join (algebra_of ((sym c.deref-then-is_partly_closed.ensures) i)) (algebra_of ((sym c.deref-then-is_partly_closed-2.ensures) i))) in
+    as_whole terms s.width c.solve_each_join.result (whole (algebra.Join L R)) (whole (algebra_of c.args.inner.now)) (ap whole is)
+    (join_each terms c.in_ok-rows-4.dict s.index.now c.requires.index s.width v graphs c.requires.graphs c.solve_each_join.result L R c.requires.variable c.in_ok-rows-4.rows c.in_ok-rows-4.ensures.evaluated c.solve_each_join.ensures.evaluated)
+
+pub solve_outward-returns-then-is_partly_closed-clause-needed : goal.solve_outward-returns-then-is_partly_closed-clause-needed
+solve_outward-returns-then-is_partly_closed-clause-needed g t c =
+    let s = c.args.self.now in
+    let terms = c.args.dict in
+    let v = c.args.variable in
+    let graphs = c.args.graphs.now in
+    let L = algebra_of c.deref-then-is_partly_closed.result.now in
+    let R = algebra_of c.deref-then-is_partly_closed-2.result.now in
+    let is : algebra_of c.args.inner.now ≡ algebra.Join L R =
+    ap algebra_of c.in-Join.is ∙ join_denotes c.in-Join.left c.in-Join.right ∙ (λ i. algebra.Join (algebra_of ((sym c.deref-then-is_partly_closed.ensures) i)) (algebra_of ((sym c.deref-then-is_partly_closed-2.ensures) i))) in
+    takes_as_each terms s.index.now s.width v c.solve_each_join.result (algebra_of c.args.inner.now) (algebra.Join L R) is
+    (takes_pair terms c.in_ok-rows-4.dict s.index.now c.requires.index s.width v graphs c.requires.graphs c.solve_each_join.result L R c.in_ok-rows-4.ensures.evaluated.grown c.in_ok-rows-4.ensures.needed c.solve_each_join.ensures.needed)
+
+pub solve_outward-returns-then-is_partly_closed-clause-one_worker : goal.solve_outward-returns-then-is_partly_closed-clause-one_worker
+solve_outward-returns-then-is_partly_closed-clause-one_worker g t c = c.solve_each_join.ensures.one_worker
+
+-- ---- the same, of which only the rows that fit are needed
+
+pub solve_each_join_where-join_where-requires-clause-same_width : goal.solve_each_join_where-join_where-requires-clause-same_width
+solve_each_join_where-join_where-requires-clause-same_width g t c κs within = c.requires.same_width ∙ sym c.in_ok-right.ensures.evaluated.wide
+
+pub solve_each_join_where-join_where-requires-clause-known_left : goal.solve_each_join_where-join_where-requires-clause-known_left
+solve_each_join_where-join_where-requires-clause-known_left g t c κs within = (rows_kept c.args.dict c.in_ok-right.dict c.in_ok-right.ensures.evaluated.grown c.args.left.rows c.requires.known_left).0
+
+pub solve_each_join_where-join_where-requires-clause-known_right : goal.solve_each_join_where-join_where-requires-clause-known_right
+solve_each_join_where-join_where-requires-clause-known_right g t c κs within = c.in_ok-right.ensures.evaluated.known
+
+pub solve_each_join_where-returns-clause-evaluated : goal.solve_each_join_where-returns-clause-evaluated
+solve_each_join_where-returns-clause-evaluated g t c =
+    let s = c.args.self.now in
+    where_right c.args.pairs.now c.args.dict c.in_ok-right.dict s.width c.join_where.result (solutions_in c.args.dict s.index.now s.width c.args.variable c.args.graphs.now (algebra_of c.args.right.now)) c.args.left c.in_ok-right.right c.requires.known_left c.in_ok-right.ensures.evaluated c.join_where.ensures.evaluated
+
+pub solve_each_join_where-returns-clause-needed : goal.solve_each_join_where-returns-clause-needed
+solve_each_join_where-returns-clause-needed g t c =
+    let s = c.args.self.now in
+    takes_still (NeededIn c.args.dict s.index.now s.width (each_graph c.args.variable) (algebra_of c.args.right.now)) c.args.dict c.in_ok-right.dict c.join_where.result c.in_ok-right.ensures.needed c.join_where.ensures.same_dict
+
+pub solve_each_join_where-returns-clause-one_worker : goal.solve_each_join_where-returns-clause-one_worker
+solve_each_join_where-returns-clause-one_worker g t c = c.join_where.ensures.one_worker
+
+pub solve_each_where-solve_each_join_where-requires-clause-index : goal.solve_each_where-solve_each_join_where-requires-clause-index
+solve_each_where-solve_each_join_where-requires-clause-index g t c κs within = (index_kept c.args.dict c.in_ok-rows-2.dict c.in_ok-rows-2.ensures.evaluated.grown c.args.self.now.index.now c.requires.index).0
+
+pub solve_each_where-solve_each_join_where-requires-clause-graphs : goal.solve_each_where-solve_each_join_where-requires-clause-graphs
+solve_each_where-solve_each_join_where-requires-clause-graphs g t c κs within =
+    graphs_kept c.args.dict c.in_ok-rows-2.dict c.in_ok-rows-2.ensures.evaluated.grown c.args.self.now.index.now c.requires.index c.args.graphs.now c.requires.graphs
+
+pub solve_each_where-solve_each_join_where-requires-clause-within : goal.solve_each_where-solve_each_join_where-requires-clause-within
+solve_each_where-solve_each_join_where-requires-clause-within g t c κs within =
+    subst (λ (T : Operator). is_within c.args.self.now.width (algebra_of T) ≡ true) (sym c.deref-then-is_partly_closed-2.ensures) (join_within c.args.self.now.width c.in-Join.left c.in-Join.right c.args.inner.now c.in-Join.is c.requires.within).1
+
+pub solve_each_where-returns-then-is_partly_closed-clause-evaluated : goal.solve_each_where-returns-then-is_partly_closed-clause-evaluated
+solve_each_where-returns-then-is_partly_closed-clause-evaluated g t c =
+    let s = c.args.self.now in
+    let terms = c.args.dict in
+    let v = c.args.variable in
+    let graphs = c.args.graphs.now in
+    let p = c.args.pairs.now in
+    let whole : Algebra → List (Solution Term) = λ A. solutions_in terms s.index.now s.width v graphs A in
+    let L = algebra_of c.deref-then-is_partly_closed.result.now in
+    let R = algebra_of c.deref-then-is_partly_closed-2.result.now in
+    let is : algebra_of c.args.inner.now ≡ algebra.Join L R =
+    ap algebra_of c.in-Join.is ∙ join_denotes c.in-Join.left c.in-Join.right ∙ (λ i. algebra.Join (algebra_of ((sym c.deref-then-is_partly_closed.ensures) i)) (algebra_of ((sym c.deref-then-is_partly_closed-2.ensures) i))) in
+    where_whole p terms s.width c.solve_each_join_where.result (whole (algebra.Join L R)) (whole (algebra_of c.args.inner.now)) (ap whole is)
+    (join_each_fitting terms c.in_ok-rows-2.dict s.index.now c.requires.index s.width v graphs c.requires.graphs c.solve_each_join_where.result L R c.requires.variable p c.in_ok-rows-2.rows c.in_ok-rows-2.ensures.evaluated c.solve_each_join_where.ensures.evaluated)
+
+pub solve_each_where-returns-then-is_partly_closed-clause-needed : goal.solve_each_where-returns-then-is_partly_closed-clause-needed
+solve_each_where-returns-then-is_partly_closed-clause-needed g t c =
+    let s = c.args.self.now in
+    let terms = c.args.dict in
+    let v = c.args.variable in
+    let graphs = c.args.graphs.now in
+    let L = algebra_of c.deref-then-is_partly_closed.result.now in
+    let R = algebra_of c.deref-then-is_partly_closed-2.result.now in
+    let is : algebra_of c.args.inner.now ≡ algebra.Join L R =
+    ap algebra_of c.in-Join.is ∙ join_denotes c.in-Join.left c.in-Join.right ∙ (λ i. algebra.Join (algebra_of ((sym c.deref-then-is_partly_closed.ensures) i)) (algebra_of ((sym c.deref-then-is_partly_closed-2.ensures) i))) in
+    takes_as_each terms s.index.now s.width v c.solve_each_join_where.result (algebra_of c.args.inner.now) (algebra.Join L R) is
+    (takes_pair terms c.in_ok-rows-2.dict s.index.now c.requires.index s.width v graphs c.requires.graphs c.solve_each_join_where.result L R c.in_ok-rows-2.ensures.evaluated.grown c.in_ok-rows-2.ensures.needed c.solve_each_join_where.ensures.needed)
+
+pub solve_each_where-returns-then-is_partly_closed-clause-one_worker : goal.solve_each_where-returns-then-is_partly_closed-clause-one_worker
+solve_each_where-returns-then-is_partly_closed-clause-one_worker g t c = c.solve_each_join_where.ensures.one_worker
