@@ -115,6 +115,7 @@ QUERIES = {
     "graph and union in graph": "GRAPH ?g { { ?a :m ?c " + IN_GRAPHS + " } UNION { ?a :k ?c } }",
     "graph in optional in graph": "GRAPH ?g { ?a :m ?c OPTIONAL { " + IN_GRAPHS + " } }",
     "graph in minus in graph": "GRAPH ?g { ?a :m ?c MINUS { GRAPH ?h { ?a :m :c5 } } }",
+    "graphs between patterns": "".join(f"GRAPH ?g{i} {{ ?a :m ?c{i} . " for i in range(5)) + "?a :m ?d" + " . ?a :m ?e }" * 5,
     # blank nodes
     "blank node path": "_:a :k _:b . _:b :k _:c . _:c :n ?x",
     "blank node with properties": "_:a :n ?x ; :k _:b . _:b :n ?y ; :l ?l",
