@@ -10,7 +10,7 @@ It proves nothing and needs only Python 3. It checks:
 - each public call has documentation, a clause, a test and a mutant, or a reason (tests/offered.py), and each of the main interface
   is called by a test itself (tests/api.py lists these);
 - each mutant can be applied: every `old:` text is in its file once;
-- the gate has at most 45 mutants, and one for each known fault in docs/MUTANTS.md that mutants show;
+- the gate has at most 45 mutants, and one for each known fault in docs/MUTANTS.md that mutants show, unless the page says otherwise;
 - the mutants and tests that docs/MUTANTS.md names exist, and the names in capitals and small letters of docs/definitions;
 - the quotes and lists of docs/THEOREM.md are those of the sources, and it explains each line that it quotes;
 - the calls and clauses that docs/CONTRACTS.md names exist;
@@ -131,6 +131,7 @@ def known_faults():
     """Returns a line for each known fault in docs/MUTANTS.md with mutants of which the gate checks none."""
     in_gate = {f"{it.crate}/{it.name}" for it in mutants() if it.in_gate}
     rows = re.findall(r"^\| (.+?) \| (`\w+/\w+`.*) \|$", read("docs/MUTANTS.md"), re.M)
+    rows = [(fault, named) for fault, named in rows if "(not in the gate" not in named]
     return [f"docs/MUTANTS.md: the gate checks no mutant for '{fault}'" for fault, named in rows if not in_gate.intersection(re.findall(r"`(\w+/\w+)`", named))]
 
 
