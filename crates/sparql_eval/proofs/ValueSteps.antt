@@ -1,10 +1,7 @@
 -- The values of an expression, with one more row and one more piece, and their numbers.
-use Rattle.std.proofs.Common.{◌≡◌, ℕ, zero, suc, ◌+◌, ◌-◌, ◌*◌, ◌<◌, ◌≤◌, List, [], ◌∷◌, ◌++◌, length, take, drop, map, get_or, slice_get, min, Option, None, Some, option_map, Contains, ⊎_elim, refl, sym, ap, ◌∙◌, subst, arith, lt_of_not-le, mul-le-mul_right}
+use Rattle.std.proofs.Common.{◌≡◌, ℕ, zero, suc, ◌+◌, ◌-◌, ◌*◌, ◌<◌, ◌≤◌, List, [], ◌∷◌, ◌++◌, length, take, drop, map, get_or, slice_get, Option, None, Some, option_map, Contains, ⊎_elim, refl, sym, ap, ◌∙◌, subst, arith}
 use Rattle.std.specs.List.{slice_index_or}
-use Rattle.std.proofs.Math.Nat.{suc-mul, zero-mul}
-use Rattle.std.specs.Int.{div_ceil}
-use Rattle.std.proofs.lemmas.Grind.{div_ceil_times}
-use Rattle.std.proofs.lemmas.List.{map-append, take-append-drop, length-drop, drop-drop}
+use Rattle.std.proofs.lemmas.List.{map-append, take-append-drop}
 use Rattle.std.proofs.lemmas.List.Elements.{Contains-append_left, Contains-append_right, Contains-append_cases, Contains-push}
 use Rattle.std.specs.List.{flat_map}
 use Rattle.rdf_core.specs.declared.term.Term.{Term}
@@ -18,6 +15,7 @@ use Rattle.dict_core.proofs.AppearanceLaws.{absorbed_terms}
 use Rattle.dict_core.proofs.InsertLaws.{grown}
 use Rattle.row_core.proofs.TurnLaws.{take_more_get}
 use Rattle.row_pieces.specs.Pieces.{piece_of}
+use Rattle.row_pieces.proofs.PieceLaws.{after-first, first-piece, next-piece, no-pieces}
 use Rattle.sparql_eval.specs.declared.piece_values.PieceValue.{PieceValue}
 use Rattle.sparql_eval.specs.declared.piece_values.PieceValue.TheVariants.{Error, Known as Number, Own}
 use Rattle.sparql_eval.specs.declared.piece_values.PieceValues.{PieceValues}
@@ -44,10 +42,6 @@ module _ (terms terms' own own' : List Term) (g : IsGrown terms terms') (h : IsG
 
 -- ---- one more row, and all pieces
 
-no_rows : {X : Type 0} (xs : List X) → length xs ≤ 0 → [] ≡ xs
-no_rows [] h = refl
-no_rows (x ∷ xs) h = absurd (omega arith)
-
 module _ (terms : List Term) (e : Expression) where
   pub values_more : (own own' : List Term) → IsGrown own own' → IsGrown terms terms → (A : List (Solution ℕ)) (from i : ℕ) (μ : Solution ℕ) (found : List PieceValue) (x : PieceValue) → from ≤ i → slice_get A i ≡ Some μ
       → AreValues terms own e (take (i - from) (drop from A)) found → IsValueOf terms own' (val e (read_by terms μ)) x → TakesOnly (λ t. val e (read_by terms μ) ≡ Some t) own own'
@@ -72,19 +66,13 @@ module _ (terms : List Term) (e : Expression) where
   pub values_joined : (size : ℕ) (outs : List PieceValues) (A : List (Solution ℕ))
       → ((i : ℕ) (d : PieceValues) → i < length outs → ArePieceValues terms e (piece_of size i A) (slice_index_or outs i d))
       → length A ≤ length outs * size → AreAllValues terms e A outs
-  values_joined size [] A each h =
-      let z = zero-mul size in
-      (tt, ap (values_over terms e) (no_rows A (omega arith)), λ t k. absurd (Contains-none t k))
+  values_joined size [] A each h = (tt, ap (values_over terms e) (sym (no-pieces size A h)), λ t k. absurd (Contains-none t k))
   values_joined size (o ∷ os) A each h =
-      let m = suc-mul (length os) size in
-      let l = length-drop size A in
-      let z : drop (0 * size) A ≡ A = ap (λ k. drop k A) (zero-mul size) in
       let first : ArePieceValues terms e (take size A) o =
-      subst (λ (ps : List (Solution ℕ)). ArePieceValues terms e (take size ps) o) z (each 0 o (omega arith)) in
-      let next : (i : ℕ) → piece_of size (suc i) A ≡ piece_of size i (drop size A) =
-      λ i. ap (take size) (ap (λ k. drop k A) (let q = suc-mul i size in omega arith) ∙ sym (drop-drop (i * size) size A)) in
+      subst (λ (ps : List (Solution ℕ)). ArePieceValues terms e ps o) (first-piece size A) (each 0 o (omega arith)) in
       let rest = values_joined size os (drop size A)
-      (λ i d low. subst (λ (ps : List (Solution ℕ)). ArePieceValues terms e ps (slice_index_or os i d)) (next i) (each (suc i) d (omega arith))) (omega arith) in
+      (λ i d low. subst (λ (ps : List (Solution ℕ)). ArePieceValues terms e ps (slice_index_or os i d)) (next-piece size A i) (each (suc i) d (omega arith)))
+      (after-first size (length os) A h) in
       let front = values_over terms e (take size A) in
       let back = values_over terms e (drop size A) in
       let parts : front ++ back ≡ values_over terms e A =
@@ -96,45 +84,6 @@ module _ (terms : List Term) (e : Expression) where
             (λ there. Contains-append_right front back (Some t) (rest.2 t there))
             (Contains-append_cases o.own (flat_map own_terms os) t k)),
       )
-
--- ---- the rows of a piece
-
-take_none : {X : Type 0} (n : ℕ) → take {A = X} n [] ≡ []
-take_none zero = refl
-take_none (suc n) = refl
-
-drop_none : {X : Type 0} (n : ℕ) → drop {A = X} n [] ≡ []
-drop_none zero = refl
-drop_none (suc n) = refl
-
-take_least : {X : Type 0} (A : List X) (m n : ℕ) → m ≡ min n (length A) → take m A ≡ take n A
-take_least [] m n e = take_none m ∙ sym (take_none n)
-take_least (x ∷ A) m zero e = let z : m ≡ 0 = omega arith in ap (λ k. take k (x ∷ A)) z
-take_least (x ∷ A) zero (suc n) e = absurd (omega arith)
-take_least (x ∷ A) (suc m) (suc n) e = ap (λ r. x ∷ r) (take_least A m n (omega arith))
-
-drop_least : {X : Type 0} (A : List X) (m n : ℕ) → m ≡ min n (length A) → drop m A ≡ drop n A
-drop_least [] m n e = drop_none m ∙ sym (drop_none n)
-drop_least (x ∷ A) m zero e = let z : m ≡ 0 = omega arith in ap (λ k. drop k (x ∷ A)) z
-drop_least (x ∷ A) zero (suc n) e = absurd (omega arith)
-drop_least (x ∷ A) (suc m) (suc n) e = drop_least A m n (omega arith)
-
--- the rows between two places, both at most the number of rows
-pub piece_between : {X : Type 0} (A : List X) (size start from to : ℕ) → from ≡ min start (length A) → to ≡ min (from + size) (length A) → take (to - from) (drop from A) ≡ take size (drop start A)
-piece_between A size start from to e f =
-    let long = length-drop from A in
-    take_least (drop from A) (to - from) size (omega arith) ∙ ap (take size) (drop_least A from start e)
-
-pub enough : (count total size pieces n : ℕ) → 0 < size → count ≡ total → pieces ≡ div_ceil count size → n ≡ pieces → total ≤ n * size
-enough count total size pieces n h e p q =
-    let t : count ≤ div_ceil count size * size = (div_ceil_times count size h).0 in
-    subst (λ (x : ℕ). total ≤ x * size) (sym (q ∙ p)) (subst (λ (x : ℕ). x ≤ div_ceil count size * size) e t)
-
-pub one_piece : (n size pieces : ℕ) → 0 < size → n ≤ size → pieces ≡ div_ceil n size → pieces ≤ 1
-one_piece n size pieces p h e =
-    let t : div_ceil n size * size < n + size = (div_ceil_times n size p).1 in
-    let low : div_ceil n size < 2 = lt_of_not-le (λ (g : 2 ≤ div_ceil n size). let m = mul-le-mul_right size g in omega arith) in
-    omega arith
 
 -- ---- the numbers of values
 

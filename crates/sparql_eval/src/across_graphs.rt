@@ -273,51 +273,15 @@ impl<'c, 'i, 'e, R: Threads + Wait, G: Gate + Sync> Evaluator<'c, 'i, 'e, R, G> 
                 let (rows, dict) = self.solve_each_where(
                     dict, variable, graphs, left, pairs, &later,
                 )?;
-                return self.solve_each_join_where(
-                    dict, variable, graphs, rows, right, pairs, tested,
-                );
+                let later = tested.after_a_join(rows.len());
+                let (others, dict) = self.solve_each_where(
+                    dict, variable, graphs, right, pairs, &later,
+                )?;
+                // Both sides bind the variable, so only rows of the same graph are joined.
+                return join_where(&self.context, self.state, dict, rows, others, pairs, tested);
             }
         }
         self.solve_each(dict, variable, graphs, inner)
-    }
-
-    /// Joins rows with those of a tree in each of some graphs, as [`solve_each_join`](Self::solve_each_join)
-    /// does. Only the pairs that fit are needed.
-    #[cycle(solve)]
-    fn solve_each_join_where(
-        &self,
-        dict: Dict,
-        variable: usize,
-        graphs: &[u64],
-        left: Rows,
-        right: &Operator,
-        pairs: &[Equality],
-        tested: &Tested<'_>,
-    ) -> Result<(Rows, Dict), EvalFault>
-        requires index { AreBelow (length dict) self.now.index.now }
-        requires variable { variable < self.now.width }
-        requires graphs { AreGraphs dict self.now.index.now graphs.now }
-        requires some { 0 < length graphs.now }
-        requires same_width { left.width ≡ self.now.width }
-        requires known_left { AreKnown dict left }
-        requires within { is_within self.now.width (algebra_of right.now) ≡ true }
-        ensures evaluated { IfOk result (λ r. IsEvaluatedWhere dict left.width (fits pairs.now)
-            (join term_eq (solutions_of dict left)
-            (solutions_in dict self.now.index.now self.now.width variable graphs.now
-            (algebra_of right.now))) r.0 r.1) }
-        ensures needed { IfOk result (λ r. TakesIn dict self.now.index.now
-            self.now.width variable (algebra_of right.now) r.1) }
-        ensures one_worker { HasOneWorker self.now.context.how.now → IfErr result (λ fault. fault ≡ Memory) }
-    {
-        let (right, dict) = self.solve_each_where(
-            dict,
-            variable,
-            graphs,
-            right,
-            pairs,
-            &tested.after_a_join(left.len()),
-        )?;
-        join_where(&self.context, self.state, dict, left, right, pairs, tested)
     }
 
     /// Extends the rows of a tree in each of some graphs.

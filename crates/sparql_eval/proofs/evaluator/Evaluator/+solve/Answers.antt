@@ -1744,66 +1744,58 @@ solve_outward-returns-then-is_partly_closed-clause-one_worker g t c = c.solve_ea
 
 -- ---- the same, of which only the rows that fit are needed
 
-pub solve_each_join_where-join_where-requires-clause-same_width : goal.solve_each_join_where-join_where-requires-clause-same_width
-solve_each_join_where-join_where-requires-clause-same_width g t c κs within = c.requires.same_width ∙ sym c.in_ok-right.ensures.evaluated.wide
+pub solve_each_where-solve_each_where-requires-then-is_partly_closed-2-clause-index : goal.solve_each_where-solve_each_where-requires-then-is_partly_closed-2-clause-index
+solve_each_where-solve_each_where-requires-then-is_partly_closed-2-clause-index g t c κs within = (index_kept c.args.dict c.in_ok-rows-2.dict c.in_ok-rows-2.ensures.evaluated.grown c.args.self.now.index.now c.requires.index).0
 
-pub solve_each_join_where-join_where-requires-clause-known_left : goal.solve_each_join_where-join_where-requires-clause-known_left
-solve_each_join_where-join_where-requires-clause-known_left g t c κs within = (rows_kept c.args.dict c.in_ok-right.dict c.in_ok-right.ensures.evaluated.grown c.args.left.rows c.requires.known_left).0
-
-pub solve_each_join_where-join_where-requires-clause-known_right : goal.solve_each_join_where-join_where-requires-clause-known_right
-solve_each_join_where-join_where-requires-clause-known_right g t c κs within = c.in_ok-right.ensures.evaluated.known
-
-pub solve_each_join_where-returns-clause-evaluated : goal.solve_each_join_where-returns-clause-evaluated
-solve_each_join_where-returns-clause-evaluated g t c =
-    let s = c.args.self.now in
-    where_right c.args.pairs.now c.args.dict c.in_ok-right.dict s.width c.join_where.result (solutions_in c.args.dict s.index.now s.width c.args.variable c.args.graphs.now (algebra_of c.args.right.now)) c.args.left c.in_ok-right.right c.requires.known_left c.in_ok-right.ensures.evaluated c.join_where.ensures.evaluated
-
-pub solve_each_join_where-returns-clause-needed : goal.solve_each_join_where-returns-clause-needed
-solve_each_join_where-returns-clause-needed g t c =
-    let s = c.args.self.now in
-    takes_still (NeededIn c.args.dict s.index.now s.width (each_graph c.args.variable) (algebra_of c.args.right.now)) c.args.dict c.in_ok-right.dict c.join_where.result c.in_ok-right.ensures.needed c.join_where.ensures.same_dict
-
-pub solve_each_join_where-returns-clause-one_worker : goal.solve_each_join_where-returns-clause-one_worker
-solve_each_join_where-returns-clause-one_worker g t c = c.join_where.ensures.one_worker
-
-pub solve_each_where-solve_each_join_where-requires-clause-index : goal.solve_each_where-solve_each_join_where-requires-clause-index
-solve_each_where-solve_each_join_where-requires-clause-index g t c κs within = (index_kept c.args.dict c.in_ok-rows-2.dict c.in_ok-rows-2.ensures.evaluated.grown c.args.self.now.index.now c.requires.index).0
-
-pub solve_each_where-solve_each_join_where-requires-clause-graphs : goal.solve_each_where-solve_each_join_where-requires-clause-graphs
-solve_each_where-solve_each_join_where-requires-clause-graphs g t c κs within =
+pub solve_each_where-solve_each_where-requires-then-is_partly_closed-2-clause-graphs : goal.solve_each_where-solve_each_where-requires-then-is_partly_closed-2-clause-graphs
+solve_each_where-solve_each_where-requires-then-is_partly_closed-2-clause-graphs g t c κs within =
     graphs_kept c.args.dict c.in_ok-rows-2.dict c.in_ok-rows-2.ensures.evaluated.grown c.args.self.now.index.now c.requires.index c.args.graphs.now c.requires.graphs
 
-pub solve_each_where-solve_each_join_where-requires-clause-within : goal.solve_each_where-solve_each_join_where-requires-clause-within
-solve_each_where-solve_each_join_where-requires-clause-within g t c κs within =
+pub solve_each_where-solve_each_where-requires-then-is_partly_closed-2-clause-within : goal.solve_each_where-solve_each_where-requires-then-is_partly_closed-2-clause-within
+solve_each_where-solve_each_where-requires-then-is_partly_closed-2-clause-within g t c κs within =
     subst (λ (T : Operator). is_within c.args.self.now.width (algebra_of T) ≡ true) (sym c.deref-then-is_partly_closed-2.ensures) (join_within c.args.self.now.width c.in-Join.left c.in-Join.right c.args.inner.now c.in-Join.is c.requires.within).1
+
+pub solve_each_where-join_where-requires-clause-same_width : goal.solve_each_where-join_where-requires-clause-same_width
+solve_each_where-join_where-requires-clause-same_width g t c κs within = c.in_ok-rows-2.ensures.evaluated.wide ∙ sym c.in_ok-others-2.ensures.evaluated.wide
+
+pub solve_each_where-join_where-requires-clause-known_left : goal.solve_each_where-join_where-requires-clause-known_left
+solve_each_where-join_where-requires-clause-known_left g t c κs within = (rows_kept c.in_ok-rows-2.dict c.in_ok-others-2.dict c.in_ok-others-2.ensures.evaluated.grown c.in_ok-rows-2.rows.rows c.in_ok-rows-2.ensures.evaluated.known).0
+
+pub solve_each_where-join_where-requires-clause-known_right : goal.solve_each_where-join_where-requires-clause-known_right
+solve_each_where-join_where-requires-clause-known_right g t c κs within = c.in_ok-others-2.ensures.evaluated.known
 
 pub solve_each_where-returns-then-is_partly_closed-clause-evaluated : goal.solve_each_where-returns-then-is_partly_closed-clause-evaluated
 solve_each_where-returns-then-is_partly_closed-clause-evaluated g t c =
     let s = c.args.self.now in
     let terms = c.args.dict in
+    let now = c.in_ok-rows-2.dict in
     let v = c.args.variable in
     let graphs = c.args.graphs.now in
     let p = c.args.pairs.now in
+    let rows = c.in_ok-rows-2.rows in
     let whole : Algebra → List (Solution Term) = λ A. solutions_in terms s.index.now s.width v graphs A in
     let L = algebra_of c.deref-then-is_partly_closed.result.now in
     let R = algebra_of c.deref-then-is_partly_closed-2.result.now in
     let is : algebra_of c.args.inner.now ≡ algebra.Join L R =
     ap algebra_of c.in-Join.is ∙ join_denotes c.in-Join.left c.in-Join.right ∙ (λ i. algebra.Join (algebra_of ((sym c.deref-then-is_partly_closed.ensures) i)) (algebra_of ((sym c.deref-then-is_partly_closed-2.ensures) i))) in
-    where_whole p terms s.width c.solve_each_join_where.result (whole (algebra.Join L R)) (whole (algebra_of c.args.inner.now)) (ap whole is)
-    (join_each_fitting terms c.in_ok-rows-2.dict s.index.now c.requires.index s.width v graphs c.requires.graphs c.solve_each_join_where.result L R c.requires.variable p c.in_ok-rows-2.rows c.in_ok-rows-2.ensures.evaluated c.solve_each_join_where.ensures.evaluated)
+    where_whole p terms s.width c.join_where.result (whole (algebra.Join L R)) (whole (algebra_of c.args.inner.now)) (ap whole is)
+    (join_each_fitting terms now s.index.now c.requires.index s.width v graphs c.requires.graphs c.join_where.result L R c.requires.variable p rows c.in_ok-rows-2.ensures.evaluated
+    (where_right p now c.in_ok-others-2.dict s.width c.join_where.result (solutions_in now s.index.now s.width v graphs R) rows c.in_ok-others-2.others c.in_ok-rows-2.ensures.evaluated.known c.in_ok-others-2.ensures.evaluated c.join_where.ensures.evaluated))
 
 pub solve_each_where-returns-then-is_partly_closed-clause-needed : goal.solve_each_where-returns-then-is_partly_closed-clause-needed
 solve_each_where-returns-then-is_partly_closed-clause-needed g t c =
     let s = c.args.self.now in
     let terms = c.args.dict in
+    let now = c.in_ok-rows-2.dict in
     let v = c.args.variable in
     let graphs = c.args.graphs.now in
     let L = algebra_of c.deref-then-is_partly_closed.result.now in
     let R = algebra_of c.deref-then-is_partly_closed-2.result.now in
     let is : algebra_of c.args.inner.now ≡ algebra.Join L R =
     ap algebra_of c.in-Join.is ∙ join_denotes c.in-Join.left c.in-Join.right ∙ (λ i. algebra.Join (algebra_of ((sym c.deref-then-is_partly_closed.ensures) i)) (algebra_of ((sym c.deref-then-is_partly_closed-2.ensures) i))) in
-    takes_as_each terms s.index.now s.width v c.solve_each_join_where.result (algebra_of c.args.inner.now) (algebra.Join L R) is
-    (takes_pair terms c.in_ok-rows-2.dict s.index.now c.requires.index s.width v graphs c.requires.graphs c.solve_each_join_where.result L R c.in_ok-rows-2.ensures.evaluated.grown c.in_ok-rows-2.ensures.needed c.solve_each_join_where.ensures.needed)
+    takes_as_each terms s.index.now s.width v c.join_where.result (algebra_of c.args.inner.now) (algebra.Join L R) is
+    (takes_pair terms now s.index.now c.requires.index s.width v graphs c.requires.graphs c.join_where.result L R c.in_ok-rows-2.ensures.evaluated.grown c.in_ok-rows-2.ensures.needed
+    (takes_still (NeededIn now s.index.now s.width (each_graph v) R) now c.in_ok-others-2.dict c.join_where.result c.in_ok-others-2.ensures.needed c.join_where.ensures.same_dict))
 
 pub solve_each_where-returns-then-is_partly_closed-clause-one_worker : goal.solve_each_where-returns-then-is_partly_closed-clause-one_worker
-solve_each_where-returns-then-is_partly_closed-clause-one_worker g t c = c.solve_each_join_where.ensures.one_worker
+solve_each_where-returns-then-is_partly_closed-clause-one_worker g t c = c.join_where.ensures.one_worker
