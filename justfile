@@ -53,6 +53,10 @@ tour program='crates/spq/out/spq':
     tests/tour.py {{program}}
     tests/usage.py {{program}}
 
+# run the examples of tests/examples with the built program
+examples program='crates/spq/out/spq':
+    tests/examples.py {{program}}
+
 # the whole gate
 gate:
     .ci/run
