@@ -15,7 +15,7 @@
 //! ```text
 //! let piece = read_piece(alloc, b"<http://e/a> <http://e/p> \"x\"@en-GB.\n")?;
 //! ```
-//! returns one quad and one line. The crate `loading_tests` runs tables of lines like this one.
+//! returns one quad and one line. The files tests/examples/document_*.toml have many lines like this one.
 //!
 //! Not guaranteed: full checking of IRIs, and that a language tag is registered.
 #![tactic(auto)]
