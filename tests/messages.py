@@ -5,7 +5,8 @@
 
 PROGRAM is the program (crates/spq/out/spq where none is given). A case is a command line, a standard input, and
 what has to come. Standard output is a pipe in most cases, so standard error first has its line again; the cases
-`at a terminal` run in a terminal. (tests/tour.py runs the examples of docs/DIAGNOSTICS.md.)
+`at a terminal` run in a terminal. (tests/examples.py compares the messages for many lines and queries, and tests/tour.py those
+of docs/DIAGNOSTICS.md.)
 Python 3 standard library, and cc for two cases that replace calls of the C library.
 """
 import argparse
@@ -27,6 +28,7 @@ ROOT = os.path.dirname(HERE)
 # The seconds that a run may take. A run takes milliseconds; the limit is for a machine that is busy.
 LIMIT = 120
 STATEMENT = b"<http://e/a> <http://e/p> <http://e/b> .\n"
+EMPTY_ROW = '{"head":{"vars":[]},"results":{"bindings":[{}]}}\n'
 XSD = "http://www.w3.org/2001/XMLSchema#"
 USAGE = """
 Usage: spq select --query TEXT [--rows N] [--workers N] [--piece BYTES] < FILE
@@ -54,120 +56,12 @@ def failed(name, words, given, status, line, said, **how):
     return Case(name, words, given, status, line + "\n", None if said is None else line + "\n" + said, **how)
 
 
-# Malformed lines: the line, the column of its place, the reason, and the hint if there is one. The column is that of the
-# first character that no line of the grammar can have there (RDF 1.1 N-Quads, section 4).
+# What some malformed lines are about, and the hints for them.
 TURTLE = "this looks like Turtle; N-Quads has no prefixes and no abbreviations: write each term in full"
 LATIN1 = "if the input is Latin-1 or Windows-1252, convert it: iconv -f CP1252 -t UTF-8 FILE | spq check"
-CUT_OFF = "the document ends inside its last line: truncated?"
 NO_SUBJECT = "expected a subject (an IRI or a blank node), found "
 NO_DOT = "missing '.' at the end of the statement"
 OPEN_LITERAL = "the literal is not closed: expected '\"', found the end of the line"
-LINES = [
-    ('"x" <a:p> <a:o> .', 1, "a subject must be an IRI or a blank node, found a literal", None),
-    ('<a:s> "x" <a:o> .', 7, "a predicate must be an IRI, found a literal", None),
-    ("<a:s> _:p <a:o> .", 7, "a predicate must be an IRI, found a blank node", None),
-    ("<a:s> <a:p> .", 13, "missing object: expected an IRI, a blank node or a literal, found '.'", None),
-    ("<a:s> <a:p> <a:o>", 18, NO_DOT, None),
-    ("<a:s> <a:p> <a:o> . <a:s>", 21, "text after the '.' that ends the statement: found an IRI", "write each statement on a line of its own"),
-    ("<http://e/s <a:p> <a:o> .", 12, "a space is not allowed in an IRI", "an IRI ends with '>': is it missing here?"),
-    ("<a:s> <a:p> http://e/o .", 13, "expected an object (an IRI, a blank node or a literal), found 'h'",
-     "write an IRI in angle brackets, as <http://example.org/name>"),
-    ("<a:s> <a:p> <a:o", 17, "the IRI is not closed: expected '>', found the end of the line", None),
-    ('<a:s> <a:p> "abc .', 19, OPEN_LITERAL, "write a line break inside a literal as \\n"),
-    ('<a:s> <a:p> "a\\qb" .', 16, "unknown escape: found 'q' after '\\'", "write a backslash as \\\\ in a literal, and as %5C in an IRI"),
-    ('<a:s> <a:p> "\\uD800" .', 17, "this escape is for a surrogate (U+D800 to U+DFFF), which is no character", None),
-    ("<http://e/a b> <a:p> <a:o> .", 12, "a space is not allowed in an IRI", "write a space in an IRI as %20"),
-    ("<a:\\u0020> <a:p> <a:o> .", 9, "this escape is for a character that is not allowed here in an IRI", "write a space in an IRI as %20"),
-    ("</s> <a:p> <a:o> .", 2, "an IRI must begin with a scheme, such as 'http:', found '/'",
-     "N-Quads has no relative IRIs: write the whole IRI, as <http://example.org/name>"),
-    ('<a:s> <a:p> "x"@1 .', 17, "a language tag must begin with a letter, found '1'", None),
-    ("_:-a <a:p> <a:o> .", 3, "a blank node label must begin with a letter, a digit, '_' or ':', found '-'", None),
-    ('<a:s> <a:p> "x"^^ .', 19, "expected a datatype (an IRI) after '^^', found '.'", None),
-    ("@prefix e: <http://e/> .", 1, NO_SUBJECT + "'@'", TURTLE),
-    ("@base <http://e/> .", 1, NO_SUBJECT + "'@'", TURTLE),
-    ("PREFIX e: <http://e/>", 1, NO_SUBJECT + "'P'", TURTLE),
-    ("e:s <a:p> <a:o> .", 1, NO_SUBJECT + "'e'", TURTLE),
-    ("<a:s> e:p <a:o> .", 7, "expected a predicate (an IRI), found 'e'", TURTLE),
-    ("<a:s> <a:p> e:o .", 13, "expected an object (an IRI, a blank node or a literal), found 'e'", TURTLE),
-    ("<< <a:s> <a:p> <a:o> >> <a:p> <a:o> .", 2, "'<<': quoted triples (RDF-star) are not supported", None),
-    ("<<<<<<< HEAD", 2, "'<<': quoted triples (RDF-star) are not supported", "this looks like the mark of a merge conflict: resolve it"),
-    ("<html>", 6, "an IRI must begin with a scheme, such as 'http:', found '>'", "this looks like HTML; spq reads N-Quads"),
-    ("Internal Server Error", 1, NO_SUBJECT + "'I'", None),
-    ('second line of a literal" .', 1, NO_SUBJECT + "'s'", None),
-]
-# Bytes that are no line of text: the bytes, the place, the reason, what is shown of them, and the hint.
-BYTES = [
-    (b'<a:s> <a:p> "caf\xe9" .\n', "byte 17", "invalid UTF-8: byte 0xE9", '<a:s> <a:p> "caf\ufffd" .\n                ^',
-     "if the input is Latin-1 or Windows-1252, convert it: iconv -f CP1252 -t UTF-8 FILE | spq check"),
-    (b"\xef\xbb\xbf<a:s> <a:p> <a:o> .\n", "column 1", "a byte order mark (U+FEFF) at the beginning of a line",
-     "\ufffd<a:s> <a:p> <a:o> .\n^", "leave the mark out: tail -c +4 FILE | spq check"),
-    (b"\xff\xfe<\0a\0:\0s\0>\0\n", "byte 1", "the input looks like UTF-16; N-Quads is UTF-8",
-     "\ufffd\ufffd<\u2400a\u2400:\u2400s\u2400>\u2400\n^", "convert it: iconv -f UTF-16 -t UTF-8 FILE | spq check"),
-    (b"\x1f\x8b\x08\0\n", "byte 1", "the input looks like gzip", "\u241f\ufffd\u2408\u2400\n^", "unpack it: zcat FILE | spq check"),
-    (b"\xfd7zXZ\0\n", "byte 1", "the input looks like xz", "\ufffd7zXZ\u2400\n^", "unpack it: xzcat FILE | spq check"),
-    (b"\x28\xb5\x2f\xfd\0\n", "byte 1", "the input looks like zstd", "(\ufffd/\ufffd\u2400\n^", "unpack it: zstdcat FILE | spq check"),
-]
-# Documents whose second line is malformed: the first line, the second one, its place, the reason, what is shown, and the hint.
-LATER = [
-    (b"", b"\xef\xbb\xbf<a:s> <a:p> <a:o> .", "column 1", "a byte order mark (U+FEFF) at the beginning of a line",
-     "\ufffd<a:s> <a:p> <a:o> .\n^", "leave the mark out: sed $'s/^\\xEF\\xBB\\xBF//' FILE | spq check"),
-    (b"", b"\x1f\x8b\x08\0", "byte 1", "the input looks like gzip", "\u241f\ufffd\u2408\u2400\n^",
-     "a compressed file begins in this line: unpack files before they are joined"),
-    (b"", b'<a:s> <a:p> "caf\xe9" .', "byte 17", "invalid UTF-8: byte 0xE9", '<a:s> <a:p> "caf\ufffd" .\n                ^',
-     "if the input is Latin-1 or Windows-1252, convert it: iconv -f CP1252 -t UTF-8 FILE | spq check"),
-    ("<a:s> <a:p> \"caf\u00e9\" .".encode(), b'<a:s> <a:p> "caf\xe9" .', "byte 17", "invalid UTF-8: byte 0xE9", '<a:s> <a:p> "caf\ufffd" .\n                ^',
-     "the text before this byte is UTF-8, so the byte is damaged: repair line 2"),
-    ("# caf\u00e9".encode(), b'<a:s> <a:p> "caf\xe9" .', "byte 17", "invalid UTF-8: byte 0xE9", '<a:s> <a:p> "caf\ufffd" .\n                ^',
-     "the text before this byte is UTF-8, so the byte is damaged: repair line 2"),
-]
-# Rejected queries: the query, the column of its place, the reason, and the hint. The place is the first terminal after
-# which no query goes on (SPARQL 1.1 Query Language, section 19.8), and for the other rules the terminal that breaks one.
-VERB = "expected a verb (an IRI, a prefixed name, a variable or 'a'), found "
-TERM = "expected a term (an IRI, a prefixed name, a variable, a blank node or a literal), found "
-ITEM = "expected a term (an IRI, a prefixed name, a variable, a blank node or a literal), '{', '}' or a pattern (such as OPTIONAL or FILTER), found "
-OPERATOR = "expected an operator (such as '=' or '&&') or ')', found "
-AFTER_GROUP = "expected LIMIT, OFFSET or the end of the query, found "
-COUNTS = "COUNT, GROUP BY and other aggregates are not supported; select the rows and count them, for instance with jq '.results.bindings | length'"
-PATHS = "property paths are not supported; write a path of fixed length as triples, as in ?x <p> ?y . ?y <q> ?z"
-FUNCTIONS = "REGEX and functions on strings, numbers and dates are not supported; select the values and filter the results, for instance with jq"
-ARITHMETIC = "arithmetic is not supported; select the values and compute with the results, for instance with jq"
-QUERIES = {
-    "error: query syntax": [
-        ("SELECT * { ?s }", 15, VERB + "'}'", None),
-        ("SELECT * { ?s ?p ?o } ORDER BY ?s", 23, AFTER_GROUP + "'ORDER'", "ORDER BY is not supported; rows are always ordered by the selected variables"),
-        ("SELECT (COUNT(*) AS ?n) { ?s ?p ?o }", 8, "expected a variable, '*' or DISTINCT, found '('", COUNTS),
-        ("SELECT ?s { ?s ?p ?o } GROUP BY ?s", 24, AFTER_GROUP + "'GROUP'", COUNTS),
-        ("SELECT * { ?s <a:p>/<a:q> ?o }", 20, TERM + "'/'", PATHS),
-        ("SELECT * { ?s <a:p>+ ?o }", 20, TERM + "'+'", PATHS),
-        ("SELECT * { ?s ^<a:p> ?o }", 15, VERB + "'^'", PATHS),
-        ("SELECT * { ?s (<a:p>|<a:q>) ?o }", 15, VERB + "'('", PATHS),
-        ('SELECT * { ?s ?p ?o FILTER REGEX(?o, "x") }', 28, "expected '(' or a function (such as BOUND), found 'REGEX'", FUNCTIONS),
-        ("SELECT * { ?s ?p ?o FILTER(STRLEN(?o) > 1) }", 28, "expected an expression, found 'STRLEN'", FUNCTIONS),
-        ("SELECT * { ?s ?p ?o FILTER(?o + 1 > 2) }", 31, OPERATOR + "'+'", ARITHMETIC),
-        ("SELECT * { ?s ?p ?o FILTER(?o * 2 > 2) }", 31, OPERATOR + "'*'", ARITHMETIC),
-        ("SELECT * FROM <a:g> { ?s ?p ?o }", 10, "expected '{' or WHERE, found 'FROM'",
-         "FROM is not supported; the dataset is standard input, and GRAPH <name> { .. } selects a graph"),
-        ("BASE <http://e/> SELECT * { ?s ?p ?o }", 1, "expected PREFIX or SELECT, found 'BASE'", "BASE is not supported; write whole IRIs, or declare a prefix"),
-        ("ASK { ?s ?p ?o }", 1, "expected PREFIX or SELECT, found 'ASK'", "ASK is not supported; write SELECT * { .. } LIMIT 1"),
-        ("CONSTRUCT { ?s ?p ?o } WHERE { ?s ?p ?o }", 1, "expected PREFIX or SELECT, found 'CONSTRUCT'",
-         "CONSTRUCT is not supported; write SELECT with the variables of the template"),
-        ("SELECT * { { SELECT ?s { ?s ?p ?o } } }", 14, ITEM + "'SELECT'", "subqueries are not supported; write the patterns of the subquery into the group"),
-        ("SELECT * { ?s ?p ?o FILTER EXISTS { ?s ?p ?q } }", 28, "expected '(' or a function (such as BOUND), found 'EXISTS'",
-         "EXISTS is not supported; write its pattern into the group, and SELECT DISTINCT"),
-        ("SELECT * { ?s ?p ?o FILTER NOT EXISTS { ?s ?p ?q } }", 28, "expected '(' or a function (such as BOUND), found 'NOT'",
-         "NOT EXISTS is not supported; write MINUS { .. }"),
-        ("SELECT * { ?s ?p ?o FILTER(?o<1900&&?o>1800) }", 30, OPERATOR + "'<1900&&?o>'", "this is read as an IRI; write a space after '<'"),
-    ],
-    "error: query prefix": [
-        ("SELECT * { ?s e:p ?o }", 15, "the prefix 'e:' is not declared", "declare it before SELECT, as in PREFIX ex: <http://example.org/>")],
-    "error: query relative iri": [
-        ("SELECT * { ?s <p> ?o }", 15, "the IRI '<p>' is relative: it has no scheme", "there is no BASE: write the whole IRI, as <http://example.org/name>")],
-    "error: query bind": [
-        ("SELECT * { ?s ?p ?o BIND(1 AS ?o) }", 31, "BIND to '?o', which the group already binds at line 1, column 18", "write another variable after AS")],
-    "error: query blank label": [
-        ("SELECT * { _:a ?p ?o { _:a ?q ?r } }", 24, "the blank node label '_:a' is in another basic graph pattern too, at line 1, column 12",
-         "write a variable in place of the label")],
-}
 
 
 def message(place, reason, shown, hint):
@@ -203,15 +97,6 @@ def lines():
             "error: line 503",
             f"spq: line 503, column 1: {NO_SUBJECT}'.'\n. y\n^\nspq: line 504, column 1: {NO_SUBJECT}'z'\nz\n^\n"
             "spq: 2 malformed lines\n  2  expected a subject (an IRI or a blank node) (first: line 503, column 1)\n")
-    yield failed(
-        "a document that is cut off", ["check"], STATEMENT + b"<http://e/a> <http://e/p> <http://e/b", 1, "error: line 2",
-        "spq: line 2, column 38: the IRI is not closed: expected '>', found the end of the line\n"
-        "<http://e/a> <http://e/p> <http://e/b\n                                     ^\n"
-        "hint: the document ends inside its last line: truncated?\n")
-    yield failed(
-        "gzip", ["check"], b"\x1f\x8b\x08\x00abc\n", 1, "error: line 1",
-        "spq: line 1, byte 1: the input looks like gzip\n\u241f\ufffd\u2408\u2400abc\n^\n"
-        "hint: unpack it: zcat FILE | spq check\n")
     long = b"<http://e/a> <http://e/p> \"" + b"a" * (3 << 20)
     yield failed(
         "a long line with an early mistake", ["check"], b"<http://e/a> x" + long + b"\n", 1, "error: line 1",
@@ -242,35 +127,30 @@ def longest_lines():
                    '<a:s> "' + "\u00e9" * 72 + "\u2026\n" + " " * 6 + "^", None)
 
 
-def reasons_of_lines():
-    """Each reason for a malformed line."""
-    for line, column, reason, hint in LINES:
-        yield bad_line(f"the line {line}", line.encode() + b"\n", f"column {column}", reason, under(line, column), hint)
-    for given, place, reason, shown, hint in BYTES:
-        yield bad_line(f"the bytes {given}", given, place, reason, shown, hint)
-    for first, second, place, reason, shown, hint in LATER:
-        yield failed(f"the bytes {second} after {first}", ["check"], first + b"\n" + second + b"\n" + "<a:s> <a:p> <a:\u00e9> .\n".encode(), 1, "error: line 2",
-                     message(f"line 2, {place}", reason, shown, hint))
-    # Text beyond ASCII in a round of blocks before the one of the malformed line.
+def distant_lines():
+    """A byte that is not UTF-8, after text beyond ASCII in a round of blocks before the one of its line."""
     plain = b"<a:s> <a:p> <a:o> .\n" * 500_000
     for before, hint in ((b"", LATIN1), ("<a:s> <a:p> <a:\u00e9> .\n".encode(), "the text before this byte is UTF-8, so the byte is damaged: repair line {}")):
         number = 500_001 + (before != b"")
         yield failed(f"a byte that is not UTF-8 after {len(before)} bytes and 500,000 lines", ["check"], before + plain + b"\xe9x\n", 1, f"error: line {number}",
                      message(f"line {number}, byte 1", "invalid UTF-8: byte 0xE9", "\ufffdx\n^", hint.format(number)))
-    for line, reason in (('<a:s> <a:p> "abc', OPEN_LITERAL), ("<a:s> <a:p> <a:o> <a:g>", NO_DOT)):
-        column = len(line) + 1
-        yield bad_line(f"the end of a document in {line}", line.encode(), f"column {column}", reason, under(line, column), CUT_OFF)
 
 
-def reasons_of_queries():
-    """Each reason for a rejected query, and each hint for a feature that is left out."""
-    for line, table in QUERIES.items():
-        for text, column, reason, hint in table:
-            yield query(f"the query {text}", text, line, message(f"query, line 1, column {column}", reason, under(text, column), hint))
-    # The line is cut round the place: 39 brackets before it and 39 after it.
-    brackets = "SELECT * " + "{" * 101 + "}" * 101
-    yield query("101 brackets", brackets, "error: query depth", message(
-        "query, line 1, column 110", "brackets are nested over 100 deep at '{'", "\u2026" + "{" * 40 + "}" * 38 + "\u2026\n" + " " * 40 + "^", None))
+def beginnings():
+    """Each beginning of a document of two lines, and malformed lines at each place of a document."""
+    # The last line may lack its line feed.
+    size = len(STATEMENT)
+    whole = {0: "ok 0 quads 0 terms 0 graphs\n"} | {count: "ok 1 quads 3 terms 0 graphs\n" for count in (size - 1, size, 2 * size - 1, 2 * size)}
+    for count in range(2 * size + 1):
+        printed = whole.get(count, f"error: line {1 if count < size else 2}\n")
+        yield Case(f"the first {count} bytes of a document", ["check", "--piece", "1"], (STATEMENT * 2)[:count], 0 if count in whole else 1, printed, None)
+    for workers in ("1", "2", "8"):
+        for bad in range(16):
+            yield failed(f"line {bad + 1} of 16 with {workers} workers", ["check", "--workers", workers, "--piece", "1"],
+                         STATEMENT * bad + b"x\n" + STATEMENT * (15 - bad), 1, f"error: line {bad + 1}", None)
+    for piece in ("1", "65536"):
+        yield failed(f"two of 1,000 lines in blocks of {piece}", ["check", "--workers", "8", "--piece", piece],
+                     STATEMENT + b"x\n" + STATEMENT * 897 + b"x\n" + STATEMENT * 100, 1, "error: line 2", None)
 
 
 SPACE = "a space is not allowed in an IRI"
@@ -321,18 +201,24 @@ def several_lines():
 
 
 def queries():
-    """Rejected queries."""
-    yield query("syntax", "SELECT * { ?s }", "error: query syntax",
-                "spq: query, line 1, column 15: expected a verb (an IRI, a prefixed name, a variable or 'a'), found '}'\n"
-                "SELECT * { ?s }\n              ^\n")
-    yield query("a prefix", "SELECT *\n{ ?s e:p ?o }", "error: query prefix",
-                "spq: query, line 2, column 6: the prefix 'e:' is not declared\n{ ?s e:p ?o }\n     ^\n"
-                "hint: declare it before SELECT, as in PREFIX ex: <http://example.org/>\n")
+    """Rejected queries, whatever the document is. (tests/examples has the reasons and the hints.)"""
+    # The line is cut round the place: 39 brackets before it and 39 after it.
+    brackets = "SELECT * " + "{" * 101 + "}" * 101
+    yield query("101 brackets", brackets, "error: query depth", message(
+        "query, line 1, column 110", "brackets are nested over 100 deep at '{'", "\u2026" + "{" * 40 + "}" * 38 + "\u2026\n" + " " * 40 + "^", None))
+    yield query("101 brackets that are not closed", "SELECT * " + "{" * 101, "error: query depth", None)
+    yield query("100 brackets in a filter", "SELECT * { FILTER" + "(" * 100 + "true" + ")" * 100 + " }", "error: query depth", None)
+    yield query("brackets after a place where no terminal begins", "SELECT ~ " + "{" * 101, "error: query syntax", None)
+    for name, text in (("100 brackets", "SELECT * " + "{" * 100 + "}" * 100), ("99 brackets in a filter", "SELECT * { FILTER" + "(" * 99 + "true" + ")" * 99 + " }")):
+        yield Case(name, ["select", "--query", text], b"", 0, EMPTY_ROW, "")
+    whole = "SELECT ?n { ?s <http://e/t> <http://e/k> OPTIONAL { ?s <http://e/n> ?n FILTER(?n < 3) } }"
+    for count in range(len(whole)):
+        yield query(f"the first {count} characters of a query", whole[:count], "error: query syntax", None)
     yield query("a long chain", "SELECT * {" + "{}" * 60000, "error: query syntax", None)
-    yield query("a deep query", "SELECT * " + "{" * 101 + "}" * 101, "error: query depth", None)
     yield query("many operands", "SELECT * { FILTER(" + "?a=1&&" * 15000 + ") }", "error: query syntax", None)
     yield failed("a byte order mark before a query", ["select", "--query", "\ufeffSELECT * {}"], b"x\n", 2, "error: query syntax", None,
                  has="spq: query, line 1, column 1: ", ends="hint: remove this byte order mark (save the file as UTF-8 without one)\n")
+    yield failed("nothing is read for a rejected query", ["select", "--query", "SELECT"], "folder", 2, "error: query syntax", None)
 
 
 def command_lines():
@@ -342,12 +228,6 @@ def command_lines():
                  "  [subcommands: select, check, terms, help]\n" + USAGE)
     yield failed("a file", ["dump.nq"], b"", 3, line, "error: unrecognized subcommand 'dump.nq'\n" + USAGE
                  + "hint: spq reads standard input: use spq check < dump.nq\n")
-    yield failed("a file after a command", ["check", "./data/dump"], b"", 3, line, None,
-                 ends="hint: spq reads standard input: use spq check < ./data/dump\n")
-    yield failed("too many workers", ["check", "--workers", "65"], b"", 3, line, None, has="65")
-    yield failed("help", ["--help"], b"", 3, line, None, has="\nExit status:\n")
-    yield failed("short help", ["-h"], b"", 3, line, None, has="\nExit status:\n")
-    yield failed("help of a command", ["select", "--help"], b"", 3, line, None, has="--query")
     yield failed("version", ["--version"], b"", 3, line, "spq 0.1.0\n")
     yield failed("no UTF-8", [b"\xff"], b"", 3, line, "spq: command line: a word is not UTF-8\n")
 
@@ -570,6 +450,19 @@ def slow(document):
     return give
 
 
+# A line of progress after 500,000 statements, which take from 1 to 50 seconds.
+COUNTED = "spq: 20 MB read, [0-9]{5,6} statements a second, reading"
+
+
+def counted(source, screen):
+    """Gives a document of 500,000 statements, and its end once a line of progress counts them."""
+    source.write(STATEMENT * 500_000)
+    source.flush()
+    end = time.monotonic() + LIMIT
+    while not re.search(COUNTED.encode(), screen.shown) and time.monotonic() < end:
+        time.sleep(0.02)
+
+
 def before_the_end(source, screen):
     """Gives a document whose first line is malformed, and its end once that is shown. If it is not, a second line is malformed."""
     source.write(b".\n" + STATEMENT * 500_000)
@@ -622,6 +515,7 @@ def with_progress(program):
         ("a query with two workers", ["select", "--query", "SELECT ?o { ?s ?p ?o }"], slow(STATEMENT), error, 0, four, {"output": rows}),
         ("a query that is shown at the terminal", select, slow(STATEMENT), both, 0, four + re.escape(rows), {}),
         ("a check", ["check"], slow(STATEMENT), error, 0, three, {"output": counts}),
+        ("a check of 500,000 statements", ["check"], counted, error, 0, f".*{re.escape(terminal.CLEAR)}{COUNTED}{re.escape(terminal.CLEAR)}.*", {"output": counts}),
         ("a check that is shown at the terminal", ["check"], slow(STATEMENT), both, 0, three + re.escape(counts), {}),
         ("a malformed line", ["check"], slow(STATEMENT + b".\n"), both, 1, progress(["reading", "indexing"]) + in_any_order(
             "error: line 2\n", "spq: line 2, column 1: expected a subject (an IRI or a blank node), found '.'\n.\n^\n"), {}),
@@ -735,7 +629,7 @@ def stopped(program):
 
 def cases(runner):
     """The name of each case, and a function that returns what is wrong of it, or nothing."""
-    for kind in (lines, several_lines, reasons_of_lines, queries, reasons_of_queries, command_lines, devices, errors, memory, notes, silent):
+    for kind in (lines, distant_lines, several_lines, beginnings, queries, command_lines, devices, errors, memory, notes, silent):
         for case in kind():
             yield case.name, functools.partial(runner.wrong, case)
     for kind in (at_the_keyboard, with_progress):

@@ -1,8 +1,8 @@
 """All public calls: each has documentation, a clause, a test and a mutant, or a reason in EXEMPT.
 
 A public call is a public function or method that a library crate offers: in a public module, or re-exported by the root of its crate.
-A test counts if the call can be reached from it, perhaps through calls of other crates, and a mutant if it changes the call or a
-function of its crate that the call reaches. A law runs no code, so it needs neither. All of it is found by text, as in calls.py: a
+A test counts if the call can be reached from it, perhaps through calls of other crates, and so does the program spq, which
+tests/examples.py and tests/messages.py run. A mutant counts if it changes the call or a function of its crate that the call reaches. A law runs no code, so it needs neither. All of it is found by text, as in calls.py: a
 call can count as tested that no test reaches, but not the other way round.
 """
 import functools
@@ -23,7 +23,7 @@ EXEMPT = {
     "query_notes::outline_of": (MESSAGES, CLAUSE), "spq_report::report": (MESSAGES, CLAUSE), "spq_report::Console::new": (MESSAGES, CLAUSE),
     "spq_report::Console::show": (MESSAGES, CLAUSE), "spq_report::Console::watch": (MESSAGES, CLAUSE),
     "spq_report::Console::end": (MESSAGES, CLAUSE), "spq_report::Console::is_watched": (MESSAGES, CLAUSE),
-    "spq_report::Console::is_first_told": (f"{MESSAGES}; tests/messages.py compares them", CLAUSE, TEST),
+    "spq_report::Console::is_first_told": (MESSAGES, CLAUSE),
     "expression_errors::ErrorCounts::new": (COUNTS, CLAUSE, MUTANT), "expression_errors::ErrorCounts::place": (COUNTS, CLAUSE),
     "expression_errors::Place::note_partial": (COUNTS, CLAUSE, MUTANT), "expression_errors::Place::note_unseen": (COUNTS, CLAUSE, MUTANT),
     "expression_errors::Place::none": (COUNTS, MUTANT), "expression_errors::digest_of": (COUNTS, CLAUSE),
@@ -97,8 +97,9 @@ def called_below(crate, source, function):
 
 @functools.lru_cache(maxsize=None)
 def tested():
-    """Returns the functions that some test may reach. A trait's methods count as called where their file has a function that is."""
+    """Returns the functions that some test may reach, or the program spq. A trait's methods count as called where their file has a function that is."""
     left = [(crate, source, it) for crate in crates() if crate.endswith("_tests") for source in code_of(crate) for it in source.functions if source.is_test(it)]
+    left += [("spq", source, it) for source in code_of("spq") for it in source.functions if it.name == "main"]
     found = set()
     while left:
         crate, source, function = left.pop()

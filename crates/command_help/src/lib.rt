@@ -8,7 +8,7 @@
 //!
 //! No standard defines the command line; it is a choice of this project.
 //!
-//! Reading order: `texts`, `program`, `messages`. Tests: `commands` of the crate program_tests.
+//! Reading order: `texts`, `program`, `messages`. Tests: tests/examples/program_help.toml.
 //!
 //! Not guaranteed: the wording, which is that of the library. spq_command decides which arguments
 //! are a command; the tests check that this crate accepts the same ones.

@@ -8,8 +8,8 @@
 //!
 //! No standard defines these messages; they are a choice of this project.
 //!
-//! Reading order: specs/Excerpt.antt, `excerpt`; specs/Message.antt, `message`. Tests: `lines` and `queries` of the
-//! crate program_tests compare whole messages. Example:
+//! Reading order: specs/Excerpt.antt, `excerpt`; specs/Message.antt, `message`. Tests: tests/examples.py
+//! compares whole messages. Example:
 //!
 //! ```text
 //! spq: line 3, column 12: a predicate must be an IRI, found a literal

@@ -11,8 +11,8 @@
 //! the causes are, and which of them count, is a choice of this project.
 //!
 //! Reading order: `cause` (what can be wrong with terms), `search` (which part of an expression is
-//! wrong), `digest` (how an evaluation finds the counts), `counts`, `counting`. Tests: `notes` of the crate program_tests, and
-//! tests/notes.py, which compares the counts with a model.
+//! wrong), `digest` (how an evaluation finds the counts), `counts`, `counting`. Tests:
+//! tests/examples/program_notes.toml, and tests/notes.py, which compares the counts with a model.
 //!
 //! ```text
 //! condition_cause(alloc, &less, &row)   // ?l < "x", where ?l is "a"@en: Some(Cause::Tagged)

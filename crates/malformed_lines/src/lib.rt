@@ -10,7 +10,7 @@
 //!
 //! Reading order: `reason_counts`, `piece_list`, `well_formed` and `listing` (one piece), `document_list` and `adding` (all pieces), `placing`.
 //!
-//! Tests: `lines` of the crate program_tests.
+//! Tests: tests/messages.py, and tests/examples/program_line_contexts.toml.
 //!
 //! Not guaranteed: that a reason is the mistake that the author made.
 #![tactic(auto)]

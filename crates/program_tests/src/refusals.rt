@@ -7,69 +7,60 @@
 //! succeed.
 ghost use Rattle.std.specs.Prelude.{◌≤◌};
 
-mod causes;
+pub(crate) mod causes;
 
-use crate::tests::asking::json;
-use crate::tests::samples::{NUMBERED, TAGGED, TWO_LINES, TYPED};
-use crate::tests::workers::by_lines;
-use rdf_core::{Term, Text, write_term};
+use crate::workers::{Passage, by_lines};
+use nquads_core::read_term;
+use rdf_core::write_term;
 use sparql_read::QueryFault;
 use spq_core::Fault;
-use std::alloc::{AllocError, Global};
+use std::alloc::Global;
 use std::process::Abort;
 use std::random::RandomSource;
 use std::sync::Wait;
 use std::thread::Threads;
-use test_fixtures::Counter;
 
-/// Prints for the script that memory or a worker was missing, and returns None. Returns false for other
-/// faults than the expected one.
-fn is_expected<R: Print>(rt: &R, fault: Fault, wanted: Result<&[u8], Fault>) -> Option<bool> {
-    let what = match fault {
-        Fault::Memory => "memory",
-        Fault::WorkerRefused => "a worker",
-        _ => return Some(wanted == Err(fault)),
+/// Evaluates a query. Returns whether it has this result. If memory or a worker was missing, prints that for the script,
+/// and returns None.
+fn attempt<R: Threads + Wait + RandomSource + Print>(
+    rt: &R,
+    alloc: Global,
+    doc: &str,
+    query: &str,
+    workers: usize,
+    gate: &Passage,
+    wanted: Result<&[u8], Fault>,
+) -> Option<bool>
+    requires workers { (1 ≤ workers) × (workers ≤ 64) }
+{
+    let what = match by_lines(rt, alloc, doc, query, workers, gate) {
+        Ok(bytes) => return Some(wanted == Ok(bytes.as_slice())),
+        Err(Fault::Memory) => "memory",
+        Err(Fault::WorkerRefused) => "a worker",
+        Err(fault) => return Some(wanted == Err(fault)),
     };
     let _ = println!(rt; "{what} failed");
     None
 }
 
-/// Evaluates a query. Returns whether it has this result, or None if memory or a worker was missing.
-fn attempt<R: Threads + Wait + RandomSource + Print>(
+/// Checks that a query has this result, at the first or the second attempt, and that each piece that entered the gate in
+/// an attempt has left it.
+fn check<R: Threads + Wait + RandomSource + Print + Abort>(
     rt: &R,
     alloc: Global,
-    doc: &[u8],
-    query: &str,
-    workers: usize,
-    gate: &Counter,
-    wanted: Result<&[u8], Fault>,
-) -> Option<bool>
-    requires workers { (1 ≤ workers) × (workers ≤ 64) }
-{
-    match by_lines(rt, alloc, doc, query, workers, 1, gate) {
-        Ok(bytes) => Some(wanted == Ok(bytes.as_slice())),
-        Err(fault) => is_expected(rt, fault, wanted),
-    }
-}
-
-/// Returns whether a query has this result, at the first or the second attempt, and each piece that
-/// entered the gate in an attempt has left it.
-fn comes_to<R: Threads + Wait + RandomSource + Print>(
-    rt: &R,
-    alloc: Global,
-    doc: &[u8],
+    doc: &str,
     query: &str,
     workers: usize,
     wanted: Result<&[u8], Fault>,
-) -> bool
+)
     requires workers { (1 ≤ workers) × (workers ≤ 64) }
 {
-    let gate = Counter::new();
+    let gate = Passage::new(false);
     let mut is_right = attempt(rt, alloc, doc, query, workers, &gate, wanted);
-    if is_right.is_none() && gate.is_balanced() {
+    if is_right.is_none() && gate.pieces.is_balanced() {
         is_right = attempt(rt, alloc, doc, query, workers, &gate, wanted);
     }
-    is_right == Some(true) && gate.is_balanced()
+    assert!(rt; is_right == Some(true) && gate.pieces.is_balanced());
 }
 
 /// Checks that a query has this result with one worker and with two.
@@ -80,71 +71,54 @@ fn check_outcome<R: Threads + Wait + RandomSource + Print + Abort>(
     query: &str,
     wanted: Result<&[u8], Fault>,
 ) {
-    assert!(rt; comes_to(rt, alloc, doc.as_bytes(), query, 1, wanted));
-    assert!(rt; comes_to(rt, alloc, doc.as_bytes(), query, 2, wanted));
-}
-
-/// Checks that a query has these variables and bindings. Checks nothing if there is no memory for the
-/// expected document.
-fn check_rows<R: Threads + Wait + RandomSource + Print + Abort>(
-    rt: &R,
-    alloc: Global,
-    doc: &str,
-    query: &str,
-    rows: (&str, &str),
-) {
-    if let Ok(wanted) = json(alloc, rows.0, rows.1) {
-        check_outcome(rt, alloc, doc, query, Ok(&wanted));
-    }
+    check(rt, alloc, doc, query, 1, wanted);
+    check(rt, alloc, doc, query, 2, wanted);
 }
 
 #[test]
 fn a_pattern_is_evaluated_or_memory_runs_out(rt: HostRuntime) {
+    let doc = "<http://e/a><http://e/p>_:b.\n_:b <http://e/q> \"\\u00e9\\n\"@EN .\n";
     let query = "SELECT ?x ?v { <http://e/a> <http://e/p> ?x . ?x <http://e/q> ?v }";
-    let rows = (
-        "'x','v'",
-        "{'v':{'type':'literal','value':'é\\n','xml:lang':'en'},'x':{'type':'bnode','value':'b'}}",
-    );
-    check_rows(&rt, rt.alloc(), TWO_LINES, query, rows);
+    let json =
+        "{\"head\":{\"vars\":[\"x\",\"v\"]},\"results\":{\"bindings\":[{\"v\":{\"type\":\"literal\",\"value\":\"é\\n\",\"xml:lang\":\"en\"},\"x\":{\"type\":\"bnode\",\"value\":\"b\"}}]}}\n";
+    check_outcome(&rt, rt.alloc(), doc, query, Ok(json.as_bytes()));
 }
 
 #[test]
 fn an_optional_part_is_evaluated_or_memory_runs_out(rt: HostRuntime) {
+    let doc =
+        "<http://e/a> <http://e/t> <http://e/k> .\n<http://e/b> <http://e/t> <http://e/k> .\n<http://e/c> <http://e/t> <http://e/k> .\n<http://e/a> <http://e/n> \"2\"^^<http://www.w3.org/2001/XMLSchema#integer> .\n<http://e/b> <http://e/n> \"5\"^^<http://www.w3.org/2001/XMLSchema#integer> .\n<http://e/c> <http://e/n> \"abc\"^^<http://www.w3.org/2001/XMLSchema#integer> .\n";
     let query =
         "SELECT ?n { ?s <http://e/t> <http://e/k> OPTIONAL { ?s <http://e/n> ?n FILTER(?n < 3) } }";
-    let rows = (
-        "'n'",
-        "{},{},{'n':{'datatype':'http://www.w3.org/2001/XMLSchema#integer','type':'literal','value':'2'}}",
-    );
-    check_rows(&rt, rt.alloc(), TYPED, query, rows);
+    let json =
+        "{\"head\":{\"vars\":[\"n\"]},\"results\":{\"bindings\":[{},{},{\"n\":{\"datatype\":\"http://www.w3.org/2001/XMLSchema#integer\",\"type\":\"literal\",\"value\":\"2\"}}]}}\n";
+    check_outcome(&rt, rt.alloc(), doc, query, Ok(json.as_bytes()));
 }
 
 #[test]
 fn a_join_is_evaluated_or_memory_runs_out(rt: HostRuntime) {
+    let doc =
+        "<http://e/a> <http://e/t> <http://e/k> .\n<http://e/b> <http://e/t> <http://e/k> .\n<http://e/a> <http://e/n> \"1\" .\n<http://e/z> <http://e/m> \"1\" .\n<http://e/z> <http://e/m> \"2\" .\n";
     let query =
         "SELECT ?y { ?s <http://e/t> <http://e/k> OPTIONAL { ?s <http://e/n> ?y } { <http://e/z> <http://e/m> ?y } }";
-    let rows = (
-        "'y'",
-        "{'y':{'type':'literal','value':'1'}},{'y':{'type':'literal','value':'1'}},{'y':{'type':'literal','value':'2'}}",
-    );
-    check_rows(&rt, rt.alloc(), NUMBERED, query, rows);
+    let json =
+        "{\"head\":{\"vars\":[\"y\"]},\"results\":{\"bindings\":[{\"y\":{\"type\":\"literal\",\"value\":\"1\"}},{\"y\":{\"type\":\"literal\",\"value\":\"1\"}},{\"y\":{\"type\":\"literal\",\"value\":\"2\"}}]}}\n";
+    check_outcome(&rt, rt.alloc(), doc, query, Ok(json.as_bytes()));
 }
 
 #[test]
 fn a_computed_term_is_returned_or_memory_runs_out(rt: HostRuntime) {
+    let doc = "<http://e/a> <http://e/p> \"x\"@en .\n";
     let query = "SELECT ?d { ?s ?p ?o BIND(DATATYPE(?o) AS ?d) }";
-    let rows = (
-        "'d'",
-        "{'d':{'type':'uri','value':'http://www.w3.org/1999/02/22-rdf-syntax-ns#langString'}}",
-    );
-    check_rows(&rt, rt.alloc(), TAGGED, query, rows);
+    let json =
+        "{\"head\":{\"vars\":[\"d\"]},\"results\":{\"bindings\":[{\"d\":{\"type\":\"uri\",\"value\":\"http://www.w3.org/1999/02/22-rdf-syntax-ns#langString\"}}]}}\n";
+    check_outcome(&rt, rt.alloc(), doc, query, Ok(json.as_bytes()));
 }
 
 #[test]
 fn a_bad_line_is_named_or_memory_runs_out(rt: HostRuntime) {
     let doc = "<http://e/a> <http://e/p> <http://e/b> .\nx\n";
-    let wanted = Err(Fault::BadLine(2));
-    check_outcome(&rt, rt.alloc(), doc, "SELECT * {}", wanted);
+    check_outcome(&rt, rt.alloc(), doc, "SELECT * {}", Err(Fault::BadLine(2)));
 }
 
 #[test]
@@ -153,53 +127,27 @@ fn a_query_is_rejected_by_its_rule_or_memory_runs_out(rt: HostRuntime) {
     check_outcome(&rt, rt.alloc(), "x\n", "SELECT", wanted);
 }
 
-/// Creates a literal whose N-Quads form is longer than the first capacity of a buffer.
-fn long_literal(alloc: Global) -> Result<Term, AllocError> {
-    let lexical = String::from_str(alloc, "\"a line\"\nand another one, with a \\ in it")?;
-    let datatype = String::from_str(alloc, "http://e/a/datatype/with/a/long/name")?;
-    Ok(Term::Literal {
-        lexical: Text::from_string(lexical),
-        datatype: Text::from_string(datatype),
-        tag: None,
-    })
-}
-
-/// The N-Quads form of that literal, after two bytes.
-const WRITTEN: &[u8] =
-    b"> \"\\\"a line\\\"\\nand another one, with a \\\\ in it\"^^<http://e/a/datatype/with/a/long/name>";
-
-/// Returns whether a fact holds. Prints it if it does not.
-fn holds<R: Print>(rt: &R, fact: &str, is_true: bool) -> bool {
-    if !is_true {
-        let _ = println!(rt; "not so: {fact}");
-    }
-    is_true
-}
-
-/// Returns whether the term is appended to the first two bytes, at the first or the second attempt.
-/// A failed attempt must leave these bytes alone.
-fn has_letters<R: Print>(rt: &R, term: &Term, out: &mut Vec<u8>) -> bool {
-    if write_term(term, out).is_err() {
-        let _ = println!(rt; "memory failed");
-        if !holds(rt, "what was there before", out.as_slice() == &WRITTEN[..2])
-            || !holds(rt, "a second try", write_term(term, out).is_ok())
-        {
-            return false;
-        }
-    }
-    holds(rt, "the N-Quads form", out.as_slice() == WRITTEN)
-}
-
-/// Returns whether the term is appended to two bytes. It is also true if there is no memory for these.
-fn is_appended<R: Print>(rt: &R, alloc: Global, term: &Term) -> bool {
-    let mut out = Vec::new(alloc);
-    out.extend_from_slice(&WRITTEN[..2]).is_err() || has_letters(rt, term, &mut out)
-}
-
+/// A literal, whose form is longer than the first capacity of a buffer, is appended to two bytes, at the first or the second
+/// attempt. A failed attempt leaves these bytes alone.
 #[test]
 fn a_term_is_written_or_nothing_is(rt: HostRuntime) {
-    let Ok(term) = long_literal(rt.alloc()) else {
+    let form =
+        "\"\\\"a line\\\"\\nand another one, with a \\\\ in it\"^^<http://e/a/datatype/with/a/long/name>";
+    let written =
+        b"> \"\\\"a line\\\"\\nand another one, with a \\\\ in it\"^^<http://e/a/datatype/with/a/long/name>".as_slice();
+    let mut out = Vec::new(rt.alloc());
+    let Ok(Some(term)) = read_term(rt.alloc(), form) else {
+        let _ = println!(rt; "memory failed");
         return;
     };
-    assert!(rt; is_appended(&rt, rt.alloc(), &term));
+    if out.extend_from_slice(b"> ").is_err() {
+        let _ = println!(rt; "memory failed");
+        return;
+    }
+    if write_term(&term, &mut out).is_err() {
+        let _ = println!(rt; "memory failed");
+        assert!(rt; out.as_slice() == b"> ".as_slice(), "what was there before");
+        assert!(rt; write_term(&term, &mut out).is_ok(), "a second try");
+    }
+    assert!(rt; out.as_slice() == written, "the N-Quads form");
 }

@@ -25,7 +25,7 @@
 //! `completion`; `expected` (the terminals that may come, as text); `places`,
 //! `rules`; `hint`, `diagnosis`, `reports`.
 //!
-//! Tests: `queries` of the crate program_tests.
+//! Tests: tests/examples/program_query_*.toml.
 //!
 //! Not guaranteed: that the reason is the mistake that the author made.
 #![tactic(auto)]

@@ -12,7 +12,7 @@
 //! (the order of a plan).
 //!
 //! Reading order: `outline`, `expressions` (the counts), `texts` (places and names), `causes` (rows),
-//! `features` (the query alone), `notes`. Tests: `notes` of the crate program_tests, tests/notes.py and
+//! `features` (the query alone), `notes`. Tests: tests/examples/program_notes.toml, tests/notes.py and
 //! tests/messages.py.
 //!
 //! Not guaranteed: that a person is surprised by what a note says.

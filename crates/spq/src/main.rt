@@ -7,7 +7,7 @@
 //! progress of a long run. Then `report` of `spq_report` writes why the run failed and where. The output is complete
 //! before the program waits for standard error.
 //!
-//! Tests: `tests/tour.py`, `tests/hostile.py` and `tests/messages.py` run the executable; the crate
+//! Tests: `tests/examples.py`, `tests/messages.py`, `tests/tour.py` and `tests/hostile.py` run the executable; the crate
 //! program_tests tests `run_words`.
 #![tactic(auto)]
 

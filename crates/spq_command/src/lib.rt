@@ -9,8 +9,7 @@
 //! Reading order: `command` (commands), `command_line` (arguments).
 //!
 //! Example: the arguments `spq`, `check`, `--workers`, `8` are a check with 8 workers, in blocks of
-//! 65,536 bytes. The tests are in the crate program_tests; `command_lines_are_read` runs such
-//! examples.
+//! 65,536 bytes. tests/examples/program_command_lines.toml has such examples.
 //!
 //! Not guaranteed: that memory suffices, and the messages of the library of command lines.
 #![tactic(auto)]

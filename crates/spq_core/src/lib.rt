@@ -20,8 +20,8 @@
 //!
 //! Example: the document `<http://e/a> <http://e/p> "x" .` and the query
 //! `SELECT ?o { <http://e/a> <http://e/p> ?o }` have the result
-//! `{"head":{"vars":["o"]},"results":{"bindings":[{"o":{"type":"literal","value":"x"}}]}}`; the test
-//! `patterns_are_evaluated` of program_tests runs such examples.
+//! `{"head":{"vars":["o"]},"results":{"bindings":[{"o":{"type":"literal","value":"x"}}]}}`; tests/examples.py
+//! runs such examples.
 //!
 //! Not guaranteed: that memory suffices, that a call returns (it joins its workers), speed, and what a
 //! file or a terminal holds.

@@ -12,7 +12,7 @@
 //! of a run that takes more than a second. A run does not wait for standard error.
 //!
 //! Reading order: `devices`, `account` (what is known about a run), `failures` (a message for each fault), `malformed`
-//! (malformed lines), `console` (during a run), `notes` (on a query), `reports`. The tests in program_tests run tables of messages.
+//! (malformed lines), `console` (during a run), `notes` (on a query), `reports`. Tests: tests/messages.py, and tests/examples.py.
 //!
 //! Not guaranteed: that standard error accepts the message.
 #![tactic(auto)]
