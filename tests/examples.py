@@ -11,7 +11,7 @@ A file tests/examples/TOPIC.toml has rows, and the names of their columns:
     query       the query, which is the word after these
     output      the whole standard output
     solutions   the solutions of a query in their order, each as `x=<http://e/a> y="1"` (N-Quads terms, unbound variables
-                left out, `{}` if all are unbound), with `; ` between them
+                left out), with `; ` between them; a solution without bindings is `{}`, or nothing among others
     error       the whole standard error
     begins      how standard error begins
     has         texts that standard error has, as a list
@@ -119,7 +119,7 @@ def wrong(program, row):
         return "begins", error, error
     if any(text not in error for text in row.get("has", [])):
         return "has", error, error
-    if "solutions" in row and row["solutions"] != solutions(output):
+    if "solutions" in row and "; ".join(it or "{}" for it in row["solutions"].split("; ") if row["solutions"]) != solutions(output):
         return "solutions", solutions(output), error
     return None
 
