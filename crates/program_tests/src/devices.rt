@@ -1,4 +1,4 @@
-//! Readers and writers that fail, and such that count no failures.
+//! Readers and writers that fail, and some that count no failures.
 
 use crate::commands::words_of;
 use crate::refusals::causes::FailureCounts;
