@@ -6,9 +6,9 @@ import re
 
 from sources import GHOST_MEMBER, ROOT, crates, mutants, sources_of
 
-# The programs, crates for tests, and an evaluator that only tests use: none of them offers a public call.
+# The programs, and crates for tests: none of them offers a public call.
 PROGRAMS = {it for it in crates() if not os.path.exists(f"{ROOT}/crates/{it}/src/lib.rt")}
-INNER = PROGRAMS | {"plain_eval", "test_fixtures"} | {it for it in crates() if it.endswith("_tests")}
+INNER = PROGRAMS | {"test_fixtures"} | {it for it in crates() if it.endswith("_tests")}
 # Methods whose names standard types have too: a call counts only on a receiver with one of these names.
 RECEIVERS = {
     "Term": "term", "Pass": "pass|a|b", "Dict": "dict|dictionary", "Rows": "rows|left|right", "Source": "source|reader|device",

@@ -17,8 +17,8 @@
 //!
 //! Example: over the triples a p b and a p c, the pattern `?s p _:x` has the solution `?s = a`
 //! twice, once for each term of its blank node label. The prover checks the worked examples of
-//! `src/examples.rt`. The tests of the evaluators plain_eval and sparql_eval are in the crate
-//! query_tests.
+//! `src/examples.rt`. Examples of the standard run through the program
+//! (tests/examples/query_solutions.toml).
 //!
 //! Not part of this crate: the translation of a query to an algebra expression (`sparql_algebra`),
 //! evaluation (`sparql_eval`), and any guarantee of time or memory.

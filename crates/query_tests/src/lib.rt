@@ -1,54 +1,23 @@
-//! Tests of queries, from their texts to their results.
+//! Tests of what queries need, from their texts to the JSON of their results, by calls of the libraries.
 //!
-//! The query reader:
+//! - `chains`: long texts of queries (sparql_read)
+//! - `values`: expressions over a row, comparisons and effective boolean values (expression_values, term_values)
+//! - `plans`: a query from its text to its solutions over a document (sparql_read, sparql_algebra, sparql_eval)
+//! - `operators`: the operators by themselves, and the printing of rows, with two workers at the same time (sparql_eval, result_json)
 //!
-//! - `terminals`: sparql_lexer
-//! - `declarations`: sparql_grammar
-//! - `expressions`: sparql_expression
-//! - `productions`: sparql_parse
-//! - `texts`: sparql_read, with whole texts and the rules that reject them
+//! Each public call is called once, because no contract says that memory suffices. The examples of the standard are in
+//! tests/examples, and run through the program.
 //!
-//! The algebra:
-//!
-//! - `comparisons`: term_values
-//! - `values`: expression_values
-//! - `plans`: sparql_algebra
-//! - `operators` and `solutions`: plain_eval
-//!
-//! `cases` runs the tables of all of them, and `terms` reads terms. The expected outputs are written
-//! from SPARQL 1.1 Query Language, sections 4, 5, 10 and 17 to 19.
-//!
-//! The evaluation of plans over rows of numbers, and the JSON of rows: the modules in `evaluation`. `cases` runs their
-//! tables too.
-//!
-//! The tests are in a crate of their own, so that a check of the tests does not prove a library
-//! again. A table is a constant, and its test is one call of a loop, because a function that owns
-//! trees or has a long local table is slow to prove.
+//! The tests are in a crate of their own, so that a check of the tests does not prove a library again.
 #![tactic(auto)]
 
 #[cfg(test)]
-mod cases;
-#[cfg(test)]
-mod comparisons;
-#[cfg(test)]
-mod declarations;
-#[cfg(test)]
-mod evaluation;
-#[cfg(test)]
-mod expressions;
+mod chains;
 #[cfg(test)]
 mod operators;
 #[cfg(test)]
 mod plans;
 #[cfg(test)]
-mod productions;
-#[cfg(test)]
-mod solutions;
-#[cfg(test)]
-mod terminals;
-#[cfg(test)]
-mod terms;
-#[cfg(test)]
-mod texts;
+mod rows;
 #[cfg(test)]
 mod values;

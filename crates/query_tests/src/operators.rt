@@ -1,96 +1,102 @@
-//! One call of each operator of plain_eval. The given solutions are texts as in `evaluation::rows`.
-use crate::cases::{Reader, check_lines};
-use crate::evaluation::rows::solutions_of;
-use crate::solutions::listed;
-use plain_eval::condition::{Condition, Value};
-use plain_eval::operators::{distinct, extend, filter, join, left_join, minus, project, union};
-use plain_eval::solution::Solution;
-use rdf_core::Term;
-use std::alloc::{AllocError, AllocGlobal, Global};
+//! The operators over rows of two variables, and the printing of rows. Two workers meet in those that run over
+//! pieces.
+use crate::rows::{HOW, hash_state, two_rows};
+use result_json::{Table, print_rows};
+use sparql_algebra::Expr;
+use sparql_eval::{Rows, distinct, extend, filter, join, left_join, minus, project, union};
+use std::alloc::AllocGlobal;
+use test_fixtures::{Meeting, text};
 
-/// The condition that the second variable is bound.
-pub(crate) struct SecondIsBound {}
-
-impl Condition for SecondIsBound {
-    ghost use Rattle.std.specs.Prelude.{get_or, is_some, None};
-
-    ghost holds = { λ _ μ. is_some (get_or μ 1 None) };
-
-    fn is_true(&self, _alloc: Global, solution: &Solution) -> Result<bool, AllocError> {
-        match solution.terms().get(1) {
-            Some(cell) => Ok(cell.is_some()),
-            None => Ok(false),
-        }
-    }
-}
-
-/// A value that is an error for each solution.
-struct NoValue {}
-
-impl Value for NoValue {
-    ghost use Rattle.std.specs.Prelude.{None};
-
-    ghost gives = { λ _ _. None };
-
-    fn value(&self, _alloc: Global, _solution: &Solution) -> Result<Option<Term>, AllocError> {
-        Ok(None)
-    }
-}
-
-/// Applies an operator to two lists of solutions, or to the first one.
-fn made(
-    alloc: Global,
-    operator: &str,
-    left: &[Solution],
-    right: &[Solution],
-) -> Result<Vec<Solution>, AllocError> {
-    match operator {
-        "join" => join(alloc, left, right),
-        "left join" => left_join(alloc, &SecondIsBound {}, left, right),
-        "minus" => minus(alloc, left, right),
-        "filter" => filter(alloc, &SecondIsBound {}, left),
-        "distinct" => distinct(alloc, left),
-        "extend" => extend(alloc, 1, &NoValue {}, left),
-        "union" => union(alloc, left, right),
-        "project" => project(alloc, &[0], left),
-        _ => Ok(Vec::new(alloc)),
-    }
-}
-
-/// Prints the solutions of an operator on two lists of solutions.
-fn shown_operator(
-    alloc: Global,
-    operator: &str,
-    left: &[Solution],
-    right: &[Solution],
-) -> Result<String, AllocError> {
-    let made = made(alloc, operator, left, right)?;
-    listed(alloc, &made)
-}
-
-/// Prints the solutions of the operator of a case: `join: 01 0- and 03`.
-pub(crate) fn operated(alloc: Global, case: &str) -> Result<String, AllocError> {
-    let (operator, texts) = case.split_once(": ").unwrap_or(("", case));
-    let (left, right) = texts.split_once(" and ").unwrap_or((texts, ""));
-    let left = solutions_of(alloc, left)?;
-    let right = solutions_of(alloc, right)?;
-    shown_operator(alloc, operator, &left, &right)
-}
-
-/// The condition of the left join and of the filter is that the second variable is bound. The value
-/// of the extension of the second variable is an error. The projection keeps the first variable.
-const OPERATORS: &str = "
-join: 01 0- 2- and 01 03      => 3: <a:x> <a:y>; <a:x> <a:y>; <a:x> <a:w>;
-left join: 01 0- 2- and 01 03 => 4: <a:x> <a:y>; <a:x> <a:y>; <a:x> <a:w>; <a:z> -;
-minus: 01 0- 2- and 01 03     => 1: <a:z> -;
-filter: 01 0- 01              => 2: <a:x> <a:y>; <a:x> <a:y>;
-distinct: 01 0- 01            => 2: <a:x> <a:y>; <a:x> -;
-extend: 01 0-                 => 2: <a:x> <a:y>; <a:x> -;
-union: 01 2- and 01 2-        => 4: <a:x> <a:y>; <a:z> -; <a:x> <a:y>; <a:z> -;
-project: 01 2-                => 2: <a:x> -; <a:z> -;
-";
-
+/// The rows x and y become the rows xx and yy, which are then joined with themselves, filtered, and taken away.
 #[test]
-fn operators_make_solutions(rt: HostRuntime) {
-    check_lines(&rt, rt.alloc(), &[(Reader::Operator, OPERATORS)]);
+fn operators_go_over_rows(rt: HostRuntime) {
+    let alloc = rt.alloc();
+    let state = hash_state(&rt);
+    let (rows, dict) = two_rows(&rt, alloc);
+    let gate = Meeting::new();
+    let (rows, dict) = extend(
+        &rt,
+        alloc,
+        state,
+        dict,
+        &rows,
+        1,
+        &Expr::Variable(0),
+        &HOW,
+        &gate,
+    )
+    .expect(&rt, "extend");
+    assert!(rt; gate.is_met(), "extend");
+    let gate = Meeting::new();
+    let (rows, dict) = join(&rt, alloc, state, dict, &rows, &rows, &HOW, &gate).expect(&rt, "join");
+    assert!(rt; gate.is_met(), "join");
+    let gate = Meeting::new();
+    let (rows, dict) = left_join(
+        &rt,
+        alloc,
+        state,
+        dict,
+        &rows,
+        &rows,
+        &Expr::Bound(1),
+        &HOW,
+        &gate,
+    )
+    .expect(&rt, "left join");
+    assert!(rt; gate.is_met(), "left join");
+    let gate = Meeting::new();
+    let (rows, dict) = filter(&rt, alloc, dict, &rows, &Expr::Bound(1), &HOW, &gate).expect(
+        &rt, "filter",
+    );
+    assert!(rt; gate.is_met(), "filter");
+    let gate = Meeting::new();
+    let (none, dict) = minus(&rt, alloc, state, dict, &rows, &rows, &HOW, &gate).expect(
+        &rt, "minus",
+    );
+    assert!(rt; gate.is_met(), "minus");
+    assert!(rt; (rows.len(), none.len(), dict.len()) == (2, 0, 2));
+}
+
+/// A union has the rows of both sides, DISTINCT has each once, and a variable that is not listed is unbound.
+#[test]
+fn rows_are_united_and_projected(rt: HostRuntime) {
+    let alloc = rt.alloc();
+    let (rows, dict) = two_rows(&rt, alloc);
+    let (rows, dict) = union(alloc, dict, &rows, &rows).expect(&rt, "union");
+    assert!(rt; rows.len() == 4);
+    let (rows, dict) = distinct(alloc, hash_state(&rt), dict, &rows).expect(&rt, "distinct");
+    assert!(rt; rows.len() == 2);
+    let (rows, dict) = project(alloc, dict, &rows, &[1, 7]).expect(&rt, "project");
+    assert!(rt; (rows.len(), dict.len()) == (2, 2));
+}
+
+/// There is one block for each row, one before them and one after them.
+#[test]
+fn rows_are_printed(rt: HostRuntime) {
+    let alloc = rt.alloc();
+    let (rows, dict) = two_rows(&rt, alloc);
+    let names = [text(alloc, "a"), text(alloc, "b")];
+    let table = Table {
+        names: &names,
+        listed: &[0],
+        dict: &dict,
+        offset: 0,
+        limit: None,
+    };
+    let gate = Meeting::new();
+    let blocks = print_rows(&rt, alloc, &table, rows, &HOW, &gate).expect(&rt, "the blocks");
+    assert!(rt; gate.is_met());
+    assert!(rt; blocks.len() == 4);
+}
+
+/// The numbers are the largest one of a cell of 4 bytes, the next one, and the largest one.
+#[test]
+fn rows_are_as_they_were_pushed(rt: HostRuntime) {
+    let mut rows = Rows::new(rt.alloc(), 2);
+    rows.push(&[Some(4_294_967_294), None]).expect(&rt, "a row");
+    rows.push(&[Some(4_294_967_295), Some(u64::MAX)])
+        .expect(&rt, "a row");
+    assert!(rt; (rows.width(), rows.len()) == (2, 2));
+    assert!(rt; (rows.get(0, 0), rows.get(0, 1)) == (Some(4_294_967_294), None));
+    assert!(rt; (rows.get(1, 0), rows.get(1, 1)) == (Some(4_294_967_295), Some(u64::MAX)));
 }

@@ -1,110 +1,74 @@
-//! Queries and their plans (SPARQL 1.1 Query Language, section 18.2).
-use crate::cases::{Reader, check_lines};
-use crate::solutions::{bound_again, solved, tabulated};
-use crate::values::answer;
-use sparql_algebra::{Plan, translate};
+//! Queries and their solutions over a document.
+ghost use Rattle.std.specs.Prelude.{length};
+ghost use Rattle.dict_core.specs.NumQuad.{AreBelow};
+
+use crate::rows::{HOW, hash_state};
+use dataset_load::load;
+use dict_core::Dict;
+use piece_cuts::Cuts;
+use piece_pool::OpenGate;
+use quad_index::Index;
+use sparql_algebra::{GraphName, Operator, PatternTerm, TriplePattern, translate};
+use sparql_eval::{evaluate, graph, pattern};
 use sparql_read::read_query;
-use sparql_tree::Query;
-use std::alloc::{AllocError, AllocGlobal, Global};
+use std::alloc::{AllocGlobal, Global};
+use std::process::Abort;
+use std::random::RandomSource;
+use std::sync::Wait;
+use std::thread::Threads;
+use test_fixtures::Meeting;
 
-/// Prints a plan (the names of its variables, the numbers of the projected ones, and the tree), or
-/// what the reader evaluates. `given` is the name of a document, or a term.
-fn shown(alloc: Global, reader: Reader, plan: &Plan, given: &str) -> Result<String, AllocError> {
-    match reader {
-        Reader::Value | Reader::Filter => answer(alloc, reader, plan, given),
-        Reader::Solutions => solved(alloc, given, plan),
-        Reader::Table => tabulated(alloc, plan),
-        _ => format!(in alloc; "{:?}, {:?}: {:?}", plan.names, plan.projected(), plan.tree),
-    }
+/// Loads a document with two statements in the default graph and one in a named graph.
+fn stored<R: RandomSource + Threads + Wait + Abort>(rt: &R, alloc: Global) -> (Dict, Index)
+    ensures below { AreBelow (length result.0) result.1 }
+{
+    let document =
+        "<a:x> <a:p> <a:y> .\n<a:y> <a:q> <a:z> .\n<a:x> <a:p> <a:z> <a:g> .\n".as_bytes();
+    let cuts = Cuts::every(alloc, document, 1).expect(rt, "cuts");
+    let store = load(rt, alloc, document, &cuts, 1, &OpenGate).expect(rt, "a store");
+    store.into_parts()
 }
 
-/// Returns the plan of a query in a box, because a function that owns a tree by value is slow to
-/// prove.
-pub(crate) fn plan_of(alloc: Global, query: &Query) -> Result<Box<Plan>, AllocError> {
-    Ok(Box::new(alloc, translate(alloc, query)?)?)
-}
-
-/// Translates a query, and prints what the reader makes of its plan.
-fn translated(
-    alloc: Global,
-    reader: Reader,
-    query: &Query,
-    given: &str,
-) -> Result<String, AllocError> {
-    let plan = plan_of(alloc, query)?;
-    shown(alloc, reader, &plan, given)
-}
-
-/// Reads a query, and prints what the reader makes of its plan.
-pub(crate) fn planned(
-    alloc: Global,
-    reader: Reader,
-    text: &str,
-    given: &str,
-) -> Result<String, AllocError> {
-    match read_query(alloc, text) {
-        Ok(query) => match reader {
-            Reader::BoundAgain => bound_again(alloc, &query),
-            _ => translated(alloc, reader, &query, given),
-        },
-        Err(fault) => format!(in alloc; "{fault:?}"),
-    }
-}
-
-/// Queries and their plans. A comment describes the query after it.
-const PLANS: &str = "\
-    # A filter ends no basic graph pattern, and is applied at the end of its group.\n\
-    SELECT * { ?s <a:p> ?o FILTER(BOUND(?o)) ?o <a:q> ?z } => \
-    [s, o, z], [0, 1, 2]: Project { variables: [0, 1, 2], inner: Filter { condition: Bound(1), inner: \
-    Join { left: Pattern { labels: 0, triples: [] }, right: Pattern { labels: 0, triples: [\
-    TriplePattern { subject: Variable(0), predicate: Term(Iri(a:p)), object: Variable(1) }, \
-    TriplePattern { subject: Variable(1), predicate: Term(Iri(a:q)), object: Variable(2) }] } } } }\n\
-    # A filter one group further in is no condition of OPTIONAL. It is inside the right side, and the condition is\n\
-    # `true`.\n\
-    SELECT * { OPTIONAL { { ?x <http://e/p> ?y FILTER(?y < 3) } } } => \
-    [x, y], [0, 1]: Project { variables: [0, 1], inner: LeftJoin { left: Pattern { labels: 0, triples: [] }, right: \
-    Join { left: Pattern { labels: 0, triples: [] }, right: Filter { condition: Compare { operator: Less, left: \
-    Variable(1), right: Constant(Literal { lexical: 3, datatype: http://www.w3.org/2001/XMLSchema#integer, tag: None }) }, \
-    inner: Join { left: Pattern { labels: 0, triples: [] }, right: Pattern { labels: 0, triples: [\
-    TriplePattern { subject: Variable(0), predicate: Term(Iri(http://e/p)), object: Variable(1) }] } } } }, condition: \
-    Constant(Literal { lexical: true, datatype: http://www.w3.org/2001/XMLSchema#boolean, tag: None }) } }\n\
-    # A filter of OPTIONAL's own group is the condition, also if it mentions a variable from outside.\n\
-    SELECT * { ?z <a:p> ?x OPTIONAL { FILTER(BOUND(?z)) ?x <a:p> ?y } } => \
-    [z, x, y], [0, 1, 2]: Project { variables: [0, 1, 2], inner: LeftJoin { left: \
-    Join { left: Pattern { labels: 0, triples: [] }, right: Pattern { labels: 0, triples: [\
-    TriplePattern { subject: Variable(0), predicate: Term(Iri(a:p)), object: Variable(1) }] } }, right: \
-    Join { left: Pattern { labels: 0, triples: [] }, right: Pattern { labels: 0, triples: [\
-    TriplePattern { subject: Variable(1), predicate: Term(Iri(a:p)), object: Variable(2) }] } }, condition: Bound(0) } }\n\
-    # A variable that is listed twice is projected once.\n\
-    SELECT DISTINCT ?b ?a ?b { } => \
-    [b, a], [0, 1]: Distinct { inner: Project { variables: [0, 1], inner: Pattern { labels: 0, triples: [] } } }\n\
-    # `*` lists what is in scope. The variables of expressions and of MINUS are not.\n\
-    SELECT * { { } UNION { BIND(?x AS ?y) } MINUS { ?z <a:p> ?z } FILTER(BOUND(?u)) } => \
-    [x, y, z, u], [1]: Project { variables: [1], inner: Filter { condition: Bound(3), inner: Minus { left: \
-    Join { left: Pattern { labels: 0, triples: [] }, right: Union { left: Pattern { labels: 0, triples: [] }, right: \
-    Extend { variable: 1, expression: Variable(0), inner: Pattern { labels: 0, triples: [] } } } }, right: \
-    Join { left: Pattern { labels: 0, triples: [] }, right: Pattern { labels: 0, triples: [\
-    TriplePattern { subject: Variable(2), predicate: Term(Iri(a:p)), object: Variable(2) }] } } } } }\n\
-    # A blank node label has one number in its pattern, by its first place.\n\
-    SELECT * { _:l ?p _:m . _:n ?p _:l } => \
-    [p], [0]: Project { variables: [0], inner: \
-    Join { left: Pattern { labels: 0, triples: [] }, right: Pattern { labels: 3, triples: [\
-    TriplePattern { subject: Label(0), predicate: Variable(0), object: Label(1) }, \
-    TriplePattern { subject: Label(2), predicate: Variable(0), object: Label(0) }] } } }\n\
-    # A variable and a label of one name are two things.\n\
-    SELECT * { ?x <a:p> _:x } => \
-    [x], [0]: Project { variables: [0], inner: \
-    Join { left: Pattern { labels: 0, triples: [] }, right: Pattern { labels: 1, triples: [\
-    TriplePattern { subject: Variable(0), predicate: Term(Iri(a:p)), object: Label(0) }] } } }\n\
-    # GRAPH and VALUES are joined with what is before them, and the table names its variable.\n\
-    SELECT * { GRAPH ?g { } VALUES (?g) { (UNDEF) } } => \
-    [g], [0]: Project { variables: [0], inner: Join { left: \
-    Join { left: Pattern { labels: 0, triples: [] }, right: \
-    Graph { name: Variable(0), inner: Pattern { labels: 0, triples: [] } } }, right: \
-    Table { variables: [0], rows: [[None]] } } }\n\
-    ";
-
+/// OPTIONAL keeps the solution that it cannot extend.
 #[test]
-fn queries_have_their_plans(rt: HostRuntime) {
-    check_lines(&rt, rt.alloc(), &[(Reader::Plan, PLANS)]);
+fn a_query_has_its_plan_and_solutions(rt: HostRuntime) {
+    let alloc = rt.alloc();
+    let (dict, index) = stored(&rt, alloc);
+    let text = "SELECT ?z ?s { ?s ?p ?o OPTIONAL { ?o ?q ?z } }";
+    let query = read_query(alloc, text).expect(&rt, "a query");
+    let plan = translate(alloc, &query).expect(&rt, "a plan");
+    assert!(rt; plan.projected() == [0, 1].as_slice());
+    let (rows, _dict) = evaluate(&rt, alloc, dict, &index, &plan, &HOW, &OpenGate).expect(
+        &rt, "rows",
+    );
+    assert!(rt; rows.width() == 5 && rows.len() == 2);
+    assert!(rt; rows.get(0, 0).is_some() != rows.get(1, 0).is_some());
+}
+
+/// No query has a label as a predicate. GRAPH with a variable has a solution of the empty pattern for each name.
+#[test]
+fn a_graph_is_matched(rt: HostRuntime) {
+    let alloc = rt.alloc();
+    let (dict, index) = stored(&rt, alloc);
+    let triples = [TriplePattern {
+        subject: PatternTerm::Variable(0),
+        predicate: PatternTerm::Label(1),
+        object: PatternTerm::Label(0),
+    }];
+    let gate = Meeting::new();
+    let (rows, dict) = pattern(&rt, alloc, dict, &index, None, 1, 2, &triples, &HOW, &gate).expect(
+        &rt, "rows",
+    );
+    assert!(rt; gate.is_met() && rows.len() == 2);
+    let state = hash_state(&rt);
+    let inner = Operator::Pattern {
+        labels: 0,
+        triples: Vec::new(alloc),
+    };
+    let name = GraphName::Variable(0);
+    let (rows, dict) = graph(
+        &rt, alloc, state, dict, &index, 1, &name, &inner, &HOW, &OpenGate,
+    )
+    .expect(&rt, "rows");
+    assert!(rt; rows.len() == 1 && dict.len() == 6);
 }

@@ -22,8 +22,7 @@
 //! `search` (depth first), `matching` (pieces, and the whole), `laws`.
 //!
 //! Example: over the triples 1 2 3 and 1 2 4, the pattern of a variable, 2 and a blank node label
-//! has the row 1 twice. The test `a_label_repeats_a_solution` runs it. The tests are
-//! `evaluation::row_patterns` of the crate query_tests.
+//! has the row 1 twice. The first row of tests/examples/query_solutions.toml is such a pattern.
 //!
 //! Not guaranteed: the order of the rows, and that the order of the triple patterns is the best
 //! one.

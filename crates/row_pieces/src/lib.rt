@@ -7,8 +7,8 @@
 //!
 //! The split is a choice of this project (not fixed by the standard).
 //!
-//! Reading order: `how`, `context`, `pieces`. Tests: `evaluation::pieces` of the crate query_tests; the tests
-//! of the operators there run [`over_pieces`].
+//! Reading order: `how`, `context`, `pieces`. The tests `operators` of the crate query_tests run
+//! [`over_pieces`].
 //!
 //! ```text
 //! let rows = over_pieces(&rt, alloc, &work, &How { workers: 4, rows: 1024 }, &OpenGate)?;

@@ -16,8 +16,8 @@
 //! Reading order: specs/ParseResult.antt, specs/Front.antt, `tokens::front`, `tokens::decoding` (the values of
 //! terminals), `tokens::classes`, `terms`, `expressions`.
 //!
-//! Example: `?a || ?b && ?c` is `Or(?a, And(?b, ?c))`. The tests are `expressions` of the crate
-//! query_tests; `joins_from_the_left` runs this example.
+//! Example: `?a || ?b && ?c` is `Or(?a, And(?b, ?c))`. A row of tests/examples/query_terminals.toml has
+//! its value. The other tests are in query_accepted.toml and query_syntax.toml there.
 //!
 //! Not guaranteed: a limit on the depth of calls. A caller first checks how deep the brackets of a
 //! text nest.

@@ -20,7 +20,7 @@
 //! specs/Derivation.antt, then `laws`; specs/Values.antt, then `declarations`; specs/Prologue.antt,
 //! specs/Mentioned.antt, specs/Derives.antt (the query of a text).
 //!
-//! Tests: `declarations` and `productions` of the crate query_tests.
+//! Tests: tests/examples/query_accepted.toml, query_syntax.toml and query_terminals.toml.
 //!
 //! Not part of this crate: the readers (`sparql_expression`, `sparql_parse`), and the rules that
 //! reject a query (`sparql_read`).

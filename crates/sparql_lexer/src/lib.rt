@@ -18,7 +18,7 @@
 //! Reading order: specs/Pattern.antt (the standard's notation), then a file for each family of
 //! terminals (Blanks, Enclosed, Names, Numbers, Words, Signs), specs/Scan.antt, `scanner`, `laws`.
 //!
-//! Tests: `terminals` of the crate query_tests.
+//! Tests: tests/examples/query_terminals.toml and query_syntax.toml.
 //!
 //! Not guaranteed: the time that a scan takes. By design it is linear in the length of the text.
 #![tactic(auto)]

@@ -14,8 +14,8 @@
 //! Standard: SPARQL 1.1 Query Language, section 19.8. docs/USAGE.md (the query language)
 //! has the supported part.
 //!
-//! Reading order: `triples`, `data_block`, `group`, `select`, `query`. Tests: `productions` of the
-//! crate query_tests.
+//! Reading order: `triples`, `data_block`, `group`, `select`, `query`. Tests:
+//! tests/examples/query_accepted.toml and query_syntax.toml.
 //!
 //! Not guaranteed: a limit on the depth of nested groups and expressions. The caller first checks
 //! how deep the brackets of the text nest.

@@ -1,2 +1,0 @@
-pub mod MapLaws
-pub mod TreeSteps
