@@ -2,8 +2,9 @@
 
 A public call is a public function or method that a library crate offers: in a public module, or re-exported by the root of its crate.
 A test counts if the call can be reached from it, perhaps through calls of other crates, and so does the program spq, which
-tests/examples.py and tests/messages.py run. A mutant counts if it changes the call or a function of its crate that the call reaches. A law runs no code, so it needs neither. All of it is found by text, as in calls.py: a
-call can count as tested that no test reaches, but not the other way round.
+tests/examples.py and tests/messages.py run. A mutant counts if it changes the call or a function of its crate that the call
+reaches. A law runs no code, so it needs neither. All of it is found by text, as in calls.py: a call can count as tested that no
+test reaches, but not the other way round.
 """
 import functools
 import re
@@ -97,7 +98,10 @@ def called_below(crate, source, function):
 
 @functools.lru_cache(maxsize=None)
 def tested():
-    """Returns the functions that some test may reach, or the program spq. A trait's methods count as called where their file has a function that is."""
+    """Returns the functions that some test may reach, or the program spq.
+
+    A trait's methods count as called where their file has a function that is.
+    """
     left = [(crate, source, it) for crate in crates() if crate.endswith("_tests") for source in code_of(crate) for it in source.functions if source.is_test(it)]
     left += [("spq", source, it) for source in code_of("spq") for it in source.functions if it.name == "main"]
     found = set()
