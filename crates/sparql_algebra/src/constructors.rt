@@ -1,11 +1,11 @@
 //! Operators in boxes. Each input is in a box of its own, so the code that builds a tree owns one
 //! box at a time.
 ghost use Rattle.std.specs.Prelude.{◌≡◌, IfOk};
-ghost use Rattle.algebra_model.specs.Algebra.{Distinct, Project};
-ghost use Rattle.sparql_algebra.specs.AlgebraOf.{algebra_of};
+ghost use Rattle.algebra_model.specs.Algebra.{Distinct, Graph, Project};
+ghost use Rattle.sparql_algebra.specs.AlgebraOf.{algebra_of, graph_name_of};
 ghost use Rattle.sparql_algebra.specs.Translation.{empty_pattern};
 
-use crate::operator::Operator;
+use crate::operator::{GraphName, Operator};
 use std::alloc::{AllocError, Global};
 
 /// Puts a tree into a box.
@@ -44,4 +44,15 @@ pub fn distinct(alloc: Global, inner: Box<Operator>) -> Result<Box<Operator>, Al
     ensures operator { IfOk result (λ made. algebra_of made.value ≡ Distinct (algebra_of inner.value)) }
 {
     boxed(alloc, Operator::Distinct { inner })
+}
+
+pub fn graph(
+    alloc: Global,
+    name: GraphName,
+    inner: Box<Operator>,
+) -> Result<Box<Operator>, AllocError>
+    ensures operator { IfOk result
+        (λ made. algebra_of made.value ≡ Graph (graph_name_of name) (algebra_of inner.value)) }
+{
+    boxed(alloc, Operator::Graph { name, inner })
 }

@@ -9,7 +9,7 @@ ghost use Rattle.sparql_algebra.specs.PartOf.{part_of};
 ghost use Rattle.sparql_algebra.specs.Translation.{Part as GroupPart, add_element, group_part, translate_graph_name, translate_group, translate_side};
 
 use crate::addition::{Addition, with_addition};
-use crate::constructors::{boxed, empty_pattern};
+use crate::constructors::{boxed, empty_pattern, graph};
 use crate::conversion::convert_boxed;
 use crate::names::Names;
 use crate::operation::Operation;
@@ -157,7 +157,7 @@ fn convert_graph(
 {
     let name = convert_graph_name(alloc, names, name)?;
     let inner = convert_group(alloc, names, group)?;
-    boxed(alloc, Operator::Graph { name, inner })
+    graph(alloc, name, inner)
 }
 
 fn convert_graph_name(
