@@ -1,5 +1,5 @@
 -- What one more draw, output or fault changes in the work so far.
-use Rattle.std.proofs.Common.{Some, length, length-append, ◌≡◌, ℕ, ◌+◌, ◌<◌, ◌≤◌, List, [], ◌∷◌, ◌++◌, Contains, true, true≢false, arith, ap, sym, ◌∙◌, subst, ⊎_elim}
+use Rattle.std.proofs.Common.{Some, ◌≡◌, ℕ, ◌+◌, ◌<◌, ◌≤◌, List, [], ◌∷◌, ◌++◌, Contains, true, true≢false, arith, ap, refl, sym, ◌∙◌, subst, ⊎_elim}
 use Rattle.std.proofs.lemmas.List.{map-append}
 use Rattle.std.proofs.lemmas.List.Sums.{sum_by-append}
 use Rattle.std.proofs.lemmas.List.Elements.{All-push, Contains-push, Contains-push_cases, Contains-append_left, Contains-append_right, Contains-append_cases}
@@ -7,7 +7,7 @@ use Rattle.piece_board.specs.Counts.{times}
 use Rattle.piece_board.specs.Board.{BoardView, IsPassOf}
 use Rattle.piece_board.specs.declared.history.History.{History}
 use Rattle.piece_board.specs.Pass.{PassView, after_drawing, after_looking, after_reporting}
-use Rattle.piece_pool.specs.Worked.{numbers_of, done_of, IsNoMoreThan, CoversUpTo, IsWorkOf, IsWorked}
+use Rattle.piece_pool.specs.Worked.{numbers_of, done_of, IsNoMoreThan, CoversUpTo, IsWorkOf, IsWorked, IsUnderway, IsDrawn}
 use Rattle.piece_pool.specs.declared.worker.Worked.{Worked}
 
 pub times-append : (x : ℕ) (xs ys : List ℕ) → times x (xs ++ ys) ≡ times x xs + times x ys
@@ -16,25 +16,28 @@ times-append x xs ys = sum_by-append _ xs ys
 pub IsNoMoreThan-draw : (xs ys : List ℕ) (i : ℕ) → IsNoMoreThan xs ys → IsNoMoreThan xs (ys ++ i ∷ [])
 IsNoMoreThan-draw xs ys i h x = omega (arith, h x, times-append x ys (i ∷ []))
 
--- one more output for the number drawn last
-pub IsNoMoreThan-answer : {Out Fault : Type 0} (outs : List (ℕ × Out)) (failed : List (ℕ × Fault)) (draws : List ℕ) (i : ℕ) (out : Out) → IsNoMoreThan (done_of outs failed) draws → IsNoMoreThan (done_of (outs ++ (i, out) ∷ []) failed) (draws ++ i ∷ [])
+IsNoMoreThan-both : (xs ys : List ℕ) (i : ℕ) → IsNoMoreThan xs ys → IsNoMoreThan (xs ++ i ∷ []) (ys ++ i ∷ [])
+IsNoMoreThan-both xs ys i h x = omega (arith, h x, times-append x xs (i ∷ []), times-append x ys (i ∷ []))
+
+-- an output for the number drawn last
+IsNoMoreThan-answer : {Out Fault : Type 0} (outs : List (ℕ × Out)) (failed : List (ℕ × Fault)) (draws : List ℕ) (i : ℕ) (out : Out) → IsNoMoreThan (done_of outs failed ++ i ∷ []) draws → IsNoMoreThan (done_of (outs ++ (i, out) ∷ []) failed) draws
 IsNoMoreThan-answer outs failed draws i out h x =
-    rw map-append (omega (arith, h x, times-append x draws (i ∷ []), times-append x (numbers_of outs) (numbers_of failed), times-append x (numbers_of outs ++ i ∷ []) (numbers_of failed), times-append x (numbers_of outs) (i ∷ [])))
+    rw map-append (omega (arith, h x, times-append x (done_of outs failed) (i ∷ []), times-append x (numbers_of outs) (numbers_of failed), times-append x (numbers_of outs ++ i ∷ []) (numbers_of failed), times-append x (numbers_of outs) (i ∷ [])))
 
--- one more fault for the number drawn last
-pub IsNoMoreThan-fault : {Out Fault : Type 0} (outs : List (ℕ × Out)) (failed : List (ℕ × Fault)) (draws : List ℕ) (i : ℕ) (fault : Fault) → IsNoMoreThan (done_of outs failed) draws → IsNoMoreThan (done_of outs (failed ++ (i, fault) ∷ [])) (draws ++ i ∷ [])
+-- a fault for the number drawn last
+IsNoMoreThan-fault : {Out Fault : Type 0} (outs : List (ℕ × Out)) (failed : List (ℕ × Fault)) (draws : List ℕ) (i : ℕ) (fault : Fault) → IsNoMoreThan (done_of outs failed ++ i ∷ []) draws → IsNoMoreThan (done_of outs (failed ++ (i, fault) ∷ [])) draws
 IsNoMoreThan-fault outs failed draws i fault h x =
-    rw map-append (omega (arith, h x, times-append x draws (i ∷ []), times-append x (numbers_of outs) (numbers_of failed), times-append x (numbers_of outs) (numbers_of failed ++ i ∷ []), times-append x (numbers_of failed) (i ∷ [])))
+    rw map-append (omega (arith, h x, times-append x (done_of outs failed) (i ∷ []), times-append x (numbers_of outs) (numbers_of failed), times-append x (numbers_of outs) (numbers_of failed ++ i ∷ []), times-append x (numbers_of failed) (i ∷ [])))
 
--- a draw that is done
-pub CoversUpTo-done : (seen seen' i : ℕ) (draws done done' : List ℕ) → CoversUpTo seen draws done → seen' ≤ seen → ((j : ℕ) → Contains done j → Contains done' j) → Contains done' i → CoversUpTo seen' (draws ++ i ∷ []) done'
-CoversUpTo-done seen seen' i draws done done' h falls grows here j in' low =
-    ⊎_elim (λ was. grows j (h j was (omega arith))) (λ is. subst (Contains done') is here) (Contains-push_cases draws i j in')
+-- one more draw, which is in the list
+CoversUpTo-draw : (seen seen' i : ℕ) (draws done : List ℕ) → CoversUpTo seen draws done → seen' ≤ seen → CoversUpTo seen' (draws ++ i ∷ []) (done ++ i ∷ [])
+CoversUpTo-draw seen seen' i draws done h falls j in' low =
+    ⊎_elim (λ was. Contains-append_left done (i ∷ []) j (h j was (omega arith))) (λ is. subst (Contains (done ++ i ∷ [])) is (Contains-push done i)) (Contains-push_cases draws i j in')
 
--- a draw above what the pass has seen
-pub CoversUpTo-skipped : (seen seen' i : ℕ) (draws done : List ℕ) → CoversUpTo seen draws done → seen' ≤ seen → seen' < i → CoversUpTo seen' (draws ++ i ∷ []) done
-CoversUpTo-skipped seen seen' i draws done h falls above j in' low =
-    ⊎_elim (λ was. h j was (omega arith)) (λ is. absurd (omega (arith, is))) (Contains-push_cases draws i j in')
+-- a number above what the pass has seen is not needed
+CoversUpTo-skipped : (seen i : ℕ) (draws done : List ℕ) → CoversUpTo seen draws (done ++ i ∷ []) → seen < i → CoversUpTo seen draws done
+CoversUpTo-skipped seen i draws done h above j in' low =
+    ⊎_elim (λ was. was) (λ is. absurd (omega (arith, is))) (Contains-push_cases done i j (h j in' low))
 
 pub Contains-output_old : {Out Fault : Type 0} (outs : List (ℕ × Out)) (failed : List (ℕ × Fault)) (i : ℕ) (out : Out) (j : ℕ) → Contains (done_of outs failed) j → Contains (done_of (outs ++ (i, out) ∷ []) failed) j
 Contains-output_old outs failed i out j h =
@@ -53,7 +56,7 @@ Contains-fault_new outs failed i fault =
     rw map-append (Contains-append_right (numbers_of outs) _ i (Contains-push (numbers_of failed) i))
 
 module _ {Out Fault : Type 0} (answers : ℕ → Out → Type 0) (faults : ℕ → Fault → Type 0) (draws reports : List ℕ) (outs : List (ℕ × Out)) (failed : List (ℕ × Fault)) (work : IsWorkOf answers faults draws reports outs failed) (i : ℕ) where
-  pub IsWorkOf-draw : IsWorkOf answers faults (draws ++ i ∷ []) reports outs failed
+  IsWorkOf-draw : IsWorkOf answers faults (draws ++ i ∷ []) reports outs failed
   IsWorkOf-draw = record {
     returned = work.returned;
     faulted = work.faulted;
@@ -61,24 +64,8 @@ module _ {Out Fault : Type 0} (answers : ℕ → Out → Type 0) (faults : ℕ �
     reported = work.reported;
   }
 
-  pub IsWorkOf-output : (out : Out) → answers i out → IsWorkOf answers faults (draws ++ i ∷ []) reports (outs ++ (i, out) ∷ []) failed
-  IsWorkOf-output out h = record {
-    returned = All-push (λ p. answers p.0 p.1) outs (i, out) work.returned h;
-    faulted = work.faulted;
-    drawn = IsNoMoreThan-answer outs failed draws i out work.drawn;
-    reported = work.reported;
-  }
-
-  pub IsWorkOf-fault : (fault : Fault) → faults i fault → IsWorkOf answers faults (draws ++ i ∷ []) (reports ++ i ∷ []) outs (failed ++ (i, fault) ∷ [])
-  IsWorkOf-fault fault h = record {
-    returned = work.returned;
-    faulted = All-push (λ p. faults p.0 p.1) failed (i, fault) work.faulted h;
-    drawn = IsNoMoreThan-fault outs failed draws i fault work.drawn;
-    reported = rw map-append (ap (λ xs. xs ++ i ∷ []) work.reported);
-  }
-
 -- a worker that stopped
-pub IsWorked-stopped : {Out Fault : Type 0} (answers : ℕ → Out → Type 0) (faults : ℕ → Fault → Type 0) (board : BoardView) (w : Worked Out Fault) → w.stopped ≡ true → IsPassOf board w.pass → IsWorkOf answers faults w.pass.history.draws w.pass.history.reports w.outs.items w.faults.items → IsWorked answers faults board w
+IsWorked-stopped : {Out Fault : Type 0} (answers : ℕ → Out → Type 0) (faults : ℕ → Fault → Type 0) (board : BoardView) (w : Worked Out Fault) → w.stopped ≡ true → IsPassOf board w.pass → IsWorkOf answers faults w.pass.history.draws w.pass.history.reports w.outs.items w.faults.items → IsWorked answers faults board w
 IsWorked-stopped answers faults board w stopped pass work = record {
   of_board = pass;
   work = work;
@@ -86,67 +73,70 @@ IsWorked-stopped answers faults board w stopped pass work = record {
   covers = λ e. absurd (true≢false (sym stopped ∙ e));
 }
 
--- The pass has one more draw, and at most `pieces` in all. Each draw up to what the pass has seen is done.
-abbrev pub IsOneMore : PassView → PassView → ℕ → List ℕ → Type 0
-IsOneMore old new pieces done =
-    (new.history.finished ≡ 0) × (length new.history.draws ≡ length old.history.draws + 1) × (length new.history.draws ≤ pieces)
-    × CoversUpTo new.history.seen new.history.draws done
+-- A worker with these outputs and faults, which drew piece i.
+module _ {Out Fault : Type 0} (answers : ℕ → Out → Type 0) (faults : ℕ → Fault → Type 0) (board : BoardView) (i : ℕ) (outs : List (ℕ × Out)) (failed : List (ℕ × Fault)) where
+  abbrev done : List ℕ
+  done = done_of outs failed
 
-module _ (p0 p1 p2 : PassView) (i least : ℕ) (drew : p1 ≡ after_drawing p0 (Some i)) (looked : p2 ≡ after_looking p1 least) where
-  pass_now : p2 ≡ after_looking (after_drawing p0 (Some i)) least
-  pass_now = looked ∙ ap (λ (p : PassView). after_looking p least) drew
+  -- the draw, and a look at the least reported number
+  pub drawn_piece : (p0 p1 p2 : PassView) (least : ℕ) → p1 ≡ after_drawing p0 (Some i) → p2 ≡ after_looking p1 least → least ≤ p1.history.seen → IsPassOf board p2
+      → IsUnderway answers faults board p0 outs failed → IsDrawn answers faults board i p2 outs failed
+  drawn_piece p0 p1 p2 least drew looked falls of_board was =
+      let draws = p0.history.draws in
+      let low : least ≤ p0.history.seen = subst (λ (p : PassView). least ≤ p.history.seen) drew falls in
+      subst (λ (p : PassView). IsPassOf board p → IsDrawn answers faults board i p outs failed) (sym (looked ∙ ap (λ (p : PassView). after_looking p least) drew)) (λ of. record {
+        of_board = of;
+        unfinished = was.unfinished;
+        last = refl;
+        work = IsWorkOf-draw answers faults draws p0.history.reports outs failed was.work i;
+        once = IsNoMoreThan-both done draws i was.work.drawn;
+        covers = CoversUpTo-draw p0.history.seen least i draws done was.covers low;
+      }) of_board
 
-  -- one more draw is done
-  one_more : (pieces : ℕ) (done' : List ℕ) → p0.history.finished ≡ 0 → length p1.history.draws ≤ pieces
-      → CoversUpTo least (p0.history.draws ++ i ∷ []) done' → IsOneMore p0 p2 pieces done'
-  one_more pieces done' unfinished room covers =
-      subst (λ (p : PassView). IsOneMore p0 p pieces done') (sym pass_now) (
-        unfinished,
-        length-append p0.history.draws (i ∷ []),
-        subst (λ (p : PassView). length p.history.draws ≤ pieces) drew room,
-        covers,
-      )
+  module _ (p : PassView) (was : IsDrawn answers faults board i p outs failed) where
+    -- the piece is done if the other pieces still are
+    now_done : (done' : List ℕ) → ((j : ℕ) → Contains done j → Contains done' j) → Contains done' i → CoversUpTo p.history.seen p.history.draws done'
+    now_done done' grows added j here below = ⊎_elim (grows j) (λ is. subst (Contains done') is added) (Contains-push_cases done i j (was.covers j here below))
 
-  module _ {Out Fault : Type 0} (answers : ℕ → Out → Type 0) (faults : ℕ → Fault → Type 0) (outs : List (ℕ × Out)) (failed : List (ℕ × Fault)) where
-    pub work_drawn : IsWorkOf answers faults p0.history.draws p0.history.reports outs failed → IsWorkOf answers faults p2.history.draws p2.history.reports outs failed
-    work_drawn work =
-        subst (λ (p : PassView). IsWorkOf answers faults p.history.draws p.history.reports outs failed) (sym pass_now)
-        (IsWorkOf-draw answers faults p0.history.draws p0.history.reports outs failed work i)
+    -- the piece is above what the pass has seen
+    pub skipped_piece : (q : PassView) → (q.board ≡ p.board) × (q.history ≡ p.history) → p.history.seen < i → IsUnderway answers faults board q outs failed
+    skipped_piece q same above = record {
+      of_board = (same.0 ∙ was.of_board.0, ap (λ (h : History). h.pieces) same.1 ∙ was.of_board.1);
+      unfinished = ap (λ (h : History). h.finished) same.1 ∙ was.unfinished;
+      work = subst (λ (h : History). IsWorkOf answers faults h.draws h.reports outs failed) (sym same.1) was.work;
+      covers = subst (λ (h : History). CoversUpTo h.seen h.draws done) (sym same.1) (CoversUpTo-skipped p.history.seen i p.history.draws done was.covers above);
+    }
 
-    pub work_output : (out : Out) (outs' : List (ℕ × Out)) → outs' ≡ outs ++ (i, out) ∷ [] → answers i out → IsWorkOf answers faults p0.history.draws p0.history.reports outs failed
-        → IsWorkOf answers faults p2.history.draws p2.history.reports outs' failed
-    work_output out outs' pushed is work =
-        subst (λ (p : PassView). IsWorkOf answers faults p.history.draws p.history.reports outs' failed) (sym pass_now)
-        (subst (λ (xs : List (ℕ × Out)). IsWorkOf answers faults (p0.history.draws ++ i ∷ []) p0.history.reports xs failed) (sym pushed)
-        (IsWorkOf-output answers faults p0.history.draws p0.history.reports outs failed work i out is))
+    pub output_added : (out : Out) (outs' : List (ℕ × Out)) → outs' ≡ outs ++ (i, out) ∷ [] → answers i out → IsUnderway answers faults board p outs' failed
+    output_added out outs' added is =
+        subst (λ (xs : List (ℕ × Out)). IsUnderway answers faults board p xs failed) (sym added) (record {
+          of_board = was.of_board;
+          unfinished = was.unfinished;
+          work = record {
+            returned = All-push (λ x. answers x.0 x.1) outs (i, out) was.work.returned is;
+            faulted = was.work.faulted;
+            drawn = λ x. IsNoMoreThan-answer outs failed p.history.draws i out was.once x;
+            reported = was.work.reported;
+          };
+          covers = now_done (done_of (outs ++ (i, out) ∷ []) failed) (Contains-output_old outs failed i out) (Contains-output_new outs failed i out);
+        })
 
-    pub work_fault : (fault : Fault) (failed' : List (ℕ × Fault)) (p3 : PassView) → p3 ≡ after_reporting p2 i → failed' ≡ failed ++ (i, fault) ∷ [] → faults i fault
-        → IsWorkOf answers faults p0.history.draws p0.history.reports outs failed → IsWorkOf answers faults p3.history.draws p3.history.reports outs failed'
-    work_fault fault failed' p3 reported pushed is work =
-        subst (λ (p : PassView). IsWorkOf answers faults p.history.draws p.history.reports outs failed') (sym (reported ∙ ap (λ (p : PassView). after_reporting p i) pass_now))
-        (subst (λ (xs : List (ℕ × Fault)). IsWorkOf answers faults (p0.history.draws ++ i ∷ []) (p0.history.reports ++ i ∷ []) outs xs) (sym pushed)
-        (IsWorkOf-fault answers faults p0.history.draws p0.history.reports outs failed work i fault is))
+    pub fault_added : (fault : Fault) (failed' : List (ℕ × Fault)) (q : PassView) → failed' ≡ failed ++ (i, fault) ∷ [] → q ≡ after_reporting p i → faults i fault → IsUnderway answers faults board q outs failed'
+    fault_added fault failed' q added reported is =
+        subst (λ (r : PassView). IsUnderway answers faults board r outs failed') (sym reported)
+        (subst (λ (xs : List (ℕ × Fault)). IsUnderway answers faults board (after_reporting p i) outs xs) (sym added) (record {
+          of_board = was.of_board;
+          unfinished = was.unfinished;
+          work = record {
+            returned = was.work.returned;
+            faulted = All-push (λ x. faults x.0 x.1) failed (i, fault) was.work.faulted is;
+            drawn = λ x. IsNoMoreThan-fault outs failed p.history.draws i fault was.once x;
+            reported = rw map-append (ap (λ xs. xs ++ i ∷ []) was.work.reported);
+          };
+          covers = now_done (done_of outs (failed ++ (i, fault) ∷ [])) (Contains-fault_old outs failed i fault) (Contains-fault_new outs failed i fault);
+        }))
 
-    module _ (pieces : ℕ) (unfinished : p0.history.finished ≡ 0) (room : length p1.history.draws ≤ pieces) (falls : least ≤ p1.history.seen)
-        (covers : CoversUpTo p0.history.seen p0.history.draws (done_of outs failed)) where
-      falls_now : least ≤ p0.history.seen
-      falls_now = subst (λ (p : PassView). least ≤ p.history.seen) drew falls
-
-      pub done_output : (out : Out) (outs' : List (ℕ × Out)) → outs' ≡ outs ++ (i, out) ∷ [] → IsOneMore p0 p2 pieces (done_of outs' failed)
-      done_output out outs' pushed =
-          subst (λ (xs : List (ℕ × Out)). IsOneMore p0 p2 pieces (done_of xs failed)) (sym pushed)
-          (one_more pieces (done_of (outs ++ (i, out) ∷ []) failed) unfinished room
-          (CoversUpTo-done p0.history.seen least i p0.history.draws (done_of outs failed) (done_of (outs ++ (i, out) ∷ []) failed) covers falls_now (Contains-output_old outs failed i out) (Contains-output_new outs failed i out)))
-
-      pub done_skipped : (p3 : PassView) → p3.history ≡ p2.history → least < i → IsOneMore p0 p3 pieces (done_of outs failed)
-      done_skipped p3 same above =
-          subst (λ (h : History). (h.finished ≡ 0) × (length h.draws ≡ length p0.history.draws + 1) × (length h.draws ≤ pieces) × CoversUpTo h.seen h.draws (done_of outs failed)) (sym same)
-          (one_more pieces (done_of outs failed) unfinished room (CoversUpTo-skipped p0.history.seen least i p0.history.draws (done_of outs failed) covers falls_now above))
-
-      pub done_fault : (fault : Fault) (failed' : List (ℕ × Fault)) (p3 : PassView) → p3 ≡ after_reporting p2 i → failed' ≡ failed ++ (i, fault) ∷ []
-          → IsOneMore p0 p3 pieces (done_of outs failed')
-      done_fault fault failed' p3 reported pushed =
-          subst (λ (p : PassView). IsOneMore p0 p pieces (done_of outs failed')) (sym reported)
-          (subst (λ (xs : List (ℕ × Fault)). IsOneMore p0 p2 pieces (done_of outs xs)) (sym pushed)
-          (one_more pieces (done_of outs (failed ++ (i, fault) ∷ [])) unfinished room
-          (CoversUpTo-done p0.history.seen least i p0.history.draws (done_of outs failed) (done_of outs (failed ++ (i, fault) ∷ [])) covers falls_now (Contains-fault_old outs failed i fault) (Contains-fault_new outs failed i fault))))
+    -- the worker stopped, and nothing was added
+    pub stopped_worker : (w : Worked Out Fault) → w.stopped ≡ true → (w.pass ≡ p) × (w.outs.items ≡ outs) × (w.faults.items ≡ failed) → IsWorked answers faults board w
+    stopped_worker w stopped same =
+        IsWorked-stopped answers faults board w stopped (subst (λ (q : PassView). IsPassOf board q) (sym same.0) was.of_board) (rw (same.0, same.1, same.2) was.work)

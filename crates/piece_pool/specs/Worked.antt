@@ -1,7 +1,8 @@
 -- What a worker returns (a choice of this project): outputs and faults of the job, for the numbers
 -- that it drew.
-use Rattle.std.specs.Prelude.{◌≡◌, ℕ, ◌<◌, ◌≤◌, List, ◌++◌, map, All, Contains, false}
+use Rattle.std.specs.Prelude.{◌≡◌, ℕ, ◌<◌, ◌≤◌, List, [], ◌∷◌, ◌++◌, Some, map, All, Contains, false}
 use Rattle.piece_board.specs.Counts.{times}
+use Rattle.piece_board.specs.Pass.{PassView}
 use Rattle.piece_board.specs.Board.{BoardView, IsPassOf}
 use Rattle.piece_pool.specs.declared.worker.Worked.{Worked}
 
@@ -44,3 +45,24 @@ pub record IsWorked {Out Fault : Type 0} (answers : ℕ → Out → Type 0)
   pub covers :
       w.stopped ≡ false
       → CoversUpTo w.pass.history.seen w.pass.history.draws (done_of w.outs.items w.faults.items)
+
+-- A worker between two pieces: its pass is not finished, and each draw at or below what the pass
+-- has seen has an output or a fault. Only private clauses use this and the next definition.
+pub record IsUnderway {Out Fault : Type 0} (answers : ℕ → Out → Type 0)
+    (faults : ℕ → Fault → Type 0) (board : BoardView) (p : PassView) (outs : List (ℕ × Out))
+    (failed : List (ℕ × Fault)) : Type 0 where
+  pub of_board : IsPassOf board p
+  pub unfinished : p.history.finished ≡ 0
+  pub work : IsWorkOf answers faults p.history.draws p.history.reports outs failed
+  pub covers : CoversUpTo p.history.seen p.history.draws (done_of outs failed)
+
+-- A worker that drew piece i and has not run it. With i done it is between two pieces.
+pub record IsDrawn {Out Fault : Type 0} (answers : ℕ → Out → Type 0) (faults : ℕ → Fault → Type 0)
+    (board : BoardView) (i : ℕ) (p : PassView) (outs : List (ℕ × Out))
+    (failed : List (ℕ × Fault)) : Type 0 where
+  pub of_board : IsPassOf board p
+  pub unfinished : p.history.finished ≡ 0
+  pub last : p.last ≡ Some i
+  pub work : IsWorkOf answers faults p.history.draws p.history.reports outs failed
+  pub once : IsNoMoreThan (done_of outs failed ++ i ∷ []) p.history.draws
+  pub covers : CoversUpTo p.history.seen p.history.draws (done_of outs failed ++ i ∷ [])

@@ -1,13 +1,12 @@
 //! One worker: it draws pieces of a board and runs them.
-ghost use Rattle.std.specs.Prelude.{◌≡◌, ◌+◌, ◌<◌, ◌≤◌, [], true, false, length};
+ghost use Rattle.std.specs.Prelude.{◌≡◌, ◌+◌, ◌≤◌, IsTrue, IsFalse, OnOk, OnErr, length};
 ghost use Rattle.piece_board.specs.Pass.{unused};
-ghost use Rattle.piece_board.specs.Board.{IsPassOf};
-ghost use Rattle.piece_pool.specs.Worked.{IsWorked, IsWorkOf, CoversUpTo, done_of};
+ghost use Rattle.piece_pool.specs.Worked.{IsWorked, IsUnderway, IsDrawn};
 
 use crate::gate::Gate;
 use crate::job::{Job, JobFault};
 use piece_board::{Board, Pass};
-use std::alloc::Global;
+use std::alloc::{AllocError, Global};
 
 /// What one worker returns.
 #[derive(Drop)]
@@ -22,14 +21,6 @@ pub struct Worked<Out, Fault> {
     pub stopped: bool,
 }
 
-/// What a worker does after a draw.
-#[derive(Clone, Copy)]
-enum Step {
-    Finished,
-    Done,
-    Stopped,
-}
-
 /// Draws pieces of the board with this pass and runs them, until no piece is left.
 ///
 /// After each draw it reads the least reported number of the board once. A piece above that number
@@ -42,7 +33,7 @@ enum Step {
 pub fn work<J: Job, G: Gate>(
     alloc: Global,
     board: &Board,
-    mut pass: Pass,
+    pass: Pass,
     job: &J,
     gate: &G,
 ) -> Worked<J::Out, J::Fault>
@@ -52,86 +43,85 @@ where
     requires unused { pass ≡ unused board.now.id board.now.pieces }
     ensures worked { IsWorked (J.answers job.now) (J.faults job.now) board.now result }
 {
-    let mut outs = Vec::new(alloc);
-    let mut faults = Vec::new(alloc);
-    loop {
-        match next_piece(alloc, board, &mut pass, job, gate, &mut outs, &mut faults) {
-            Step::Done => {}
-            Step::Finished => {
-                return Worked {
-                    pass,
-                    outs,
-                    faults,
-                    stopped: false,
-                };
-            }
-            Step::Stopped => {
-                return Worked {
-                    pass,
-                    outs,
-                    faults,
-                    stopped: true,
-                };
-            }
-        }
-    }
+    let mut worked = Worked {
+        pass,
+        outs: Vec::new(alloc),
+        faults: Vec::new(alloc),
+        stopped: false,
+    };
+    while next_piece(alloc, board, job, gate, &mut worked) {}
+    worked
 }
 
-/// Draws one piece, and skips it or runs it.
+/// Draws one piece, and skips it or runs it. Returns whether the worker continues.
 fn next_piece<J: Job, G: Gate>(
     alloc: Global,
     board: &Board,
-    pass: &mut Pass,
     job: &J,
     gate: &G,
-    outs: &mut Vec<(u64, J::Out)>,
-    faults: &mut Vec<(u64, J::Fault)>,
-) -> Step
+    worked: &mut Worked<J::Out, J::Fault>,
+) -> bool
 where
     J::Out: Drop,
     J::Fault: Drop,
-    requires of_board { IsPassOf board.now pass.old }
-    requires unfinished { pass.old.history.finished ≡ 0 }
-    requires work { IsWorkOf (J.answers job.now) (J.faults job.now) pass.old.history.draws
-        pass.old.history.reports outs.old.items faults.old.items }
-    requires covers { CoversUpTo pass.old.history.seen pass.old.history.draws
-        (done_of outs.old.items faults.old.items) }
-    ensures of_board { IsPassOf board.now pass.new }
-    ensures work { IsWorkOf (J.answers job.now) (J.faults job.now) pass.new.history.draws
-        pass.new.history.reports outs.new.items faults.new.items }
-    ensures finished { result ≡ Step.Finished → (0 < pass.new.history.finished)
-        × CoversUpTo pass.new.history.seen pass.new.history.draws
-        (done_of outs.new.items faults.new.items) }
-    ensures done { result ≡ Step.Done → (pass.new.history.finished ≡ 0)
-        × (length pass.new.history.draws ≡ length pass.old.history.draws + 1)
-        × (length pass.new.history.draws ≤ board.now.pieces)
-        × CoversUpTo pass.new.history.seen pass.new.history.draws
-        (done_of outs.new.items faults.new.items) }
+    requires underway { IsUnderway (J.answers job.now) (J.faults job.now) board.now worked.old.pass
+        worked.old.outs.items worked.old.faults.items }
+    ensures underway { IsTrue result → IsUnderway (J.answers job.now) (J.faults job.now) board.now
+        worked.new.pass worked.new.outs.items worked.new.faults.items }
+    ensures drew { IsTrue result
+        → (length worked.new.pass.history.draws ≡ length worked.old.pass.history.draws + 1)
+        × (length worked.new.pass.history.draws ≤ board.now.pieces) }
+    ensures worked { IsFalse result → IsWorked (J.answers job.now) (J.faults job.now) board.now
+        worked.new }
 {
-    let Some(i) = board.draw(pass) else {
-        return Step::Finished;
+    let Some(i) = board.draw(&mut worked.pass) else {
+        return false;
     };
-    if board.least(pass) < i {
-        pass.skip(i);
-        return Step::Done;
+    if board.least(&mut worked.pass) < i {
+        worked.pass.skip(i);
+        return true;
     }
+    let Ok(()) = run_piece(alloc, board, job, gate, i, worked) else {
+        worked.stopped = true;
+        return false;
+    };
+    true
+}
+
+/// Runs the piece that was drawn last. Adds its output, or adds its fault and reports it.
+///
+/// # Errors
+/// `AllocError` if an allocation fails, of the worker or of the job.
+fn run_piece<J: Job, G: Gate>(
+    alloc: Global,
+    board: &Board,
+    job: &J,
+    gate: &G,
+    i: u64,
+    worked: &mut Worked<J::Out, J::Fault>,
+) -> Result<(), AllocError>
+where
+    J::Out: Drop,
+    J::Fault: Drop,
+    requires drawn { IsDrawn (J.answers job.now) (J.faults job.now) board.now i worked.old.pass
+        worked.old.outs.items worked.old.faults.items }
+    ensures underway { OnOk result (IsUnderway (J.answers job.now) (J.faults job.now) board.now
+        worked.new.pass worked.new.outs.items worked.new.faults.items) }
+    ensures draws { worked.new.pass.history.draws ≡ worked.old.pass.history.draws }
+    ensures unchanged { OnErr result ((worked.new.pass ≡ worked.old.pass)
+        × (worked.new.outs.items ≡ worked.old.outs.items)
+        × (worked.new.faults.items ≡ worked.old.faults.items)) }
+{
     gate.enter(i);
     let outcome = job.run(alloc, i);
     gate.leave(i);
     match outcome {
-        Ok(out) => {
-            let Ok(()) = outs.push((i, out)) else {
-                return Step::Stopped;
-            };
-            Step::Done
-        }
+        Ok(out) => Ok(worked.outs.push((i, out))?),
         Err(JobFault::Own(fault)) => {
-            let Ok(()) = faults.push((i, fault)) else {
-                return Step::Stopped;
-            };
-            board.report(pass, i);
-            Step::Done
+            worked.faults.push((i, fault))?;
+            board.report(&mut worked.pass, i);
+            Ok(())
         }
-        Err(JobFault::Memory) => Step::Stopped,
+        Err(JobFault::Memory) => Err(AllocError),
     }
 }
