@@ -64,14 +64,14 @@ module _ (p : ℕ → Bool) where
   pub bag_pass : (rows A : List (Solution ℕ)) → IsSameBag rows A → all_pass p A ≡ true → all_pass p rows ≡ true
   bag_pass rows A h k = list_all-IsPermutation (passes p) rows A h ∙ k
 
-pub knows_all : (A : List (Solution ℕ)) → all_pass (λ n. true) A ≡ true
-knows_all [] = refl
-knows_all (μ ∷ A) = both (λ n. true) (passes (λ n. true) μ) (all_pass (λ n. true) A) (row μ) (knows_all A)
+pub knows_row : (μ : Solution ℕ) → passes (λ n. true) μ ≡ true
+knows_row [] = refl
+knows_row (x ∷ μ) = both (λ n. true) (cell_passes (λ n. true) x) (passes (λ n. true) μ) (cell x) (knows_row μ)
   where
     cell : (x : Option ℕ) → cell_passes (λ n. true) x ≡ true
     cell None = refl
     cell (Some x) = refl
 
-    row : (μ : Solution ℕ) → passes (λ n. true) μ ≡ true
-    row [] = refl
-    row (x ∷ μ) = both (λ n. true) (cell_passes (λ n. true) x) (passes (λ n. true) μ) (cell x) (row μ)
+pub knows_all : (A : List (Solution ℕ)) → all_pass (λ n. true) A ≡ true
+knows_all [] = refl
+knows_all (μ ∷ A) = both (λ n. true) (passes (λ n. true) μ) (all_pass (λ n. true) A) (knows_row μ) (knows_all A)

@@ -9,7 +9,8 @@ use Rattle.algebra_model.specs.Solution.{Solution, is_compatible, merge}
 use Rattle.algebra_model.specs.Operators.{merges, share}
 use Rattle.algebra_model.specs.Solve.{alone, left_row}
 use Rattle.algebra_model.specs.Keys.{may_meet}
-use Rattle.algebra_model.proofs.KeyLaws.{may_meet-covers, merges-tried, left_row-tried, apart-tried}
+use Rattle.algebra_model.proofs.CongruenceLaws.{filter-IsSameBag}
+use Rattle.algebra_model.proofs.KeyLaws.{may_meet-covers, merges-tried, alone-tried, apart-tried}
 use Rattle.std.proofs.lemmas.Bool.Decides.{Decides-eqb}
 use Rattle.row_join.specs.Pairing.{is_apart, row_if}
 use Rattle.row_join.specs.Places.{rows_at}
@@ -56,45 +57,50 @@ module _ (key : List ℕ) (μ : Solution ℕ) (rows : List (Solution ℕ)) (firs
   tried_two : IsSameBag (rows_at rows first ++ rows_at rows second) (filter (may_meet nat_eq key μ) rows)
   tried_two = subst (λ (l : List (Solution ℕ)). IsSameBag l (filter (may_meet nat_eq key μ) rows)) two tried
 
-  pub join-tried : (old half made : List (Solution ℕ)) → half ≡ old ++ merges nat_eq μ (rows_at rows first) → made ≡ half ++ merges nat_eq μ (rows_at rows second)
-      → IsSameBag made (old ++ merges nat_eq μ rows)
-  join-tried old half made e f =
-      subst (λ (l : List (Solution ℕ)). IsSameBag l (old ++ merges nat_eq μ rows)) (sym all)
-      (appended old (merges nat_eq μ (rows_at rows first ++ rows_at rows second)) (merges nat_eq μ rows)
-      (merges-tried nat_eq μ (may_meet nat_eq key μ) (may_meet-covers nat_eq key μ) (rows_at rows first ++ rows_at rows second) rows tried_two Decides-eqb))
+  abbrev both : List (Solution ℕ)
+  both = rows_at rows first ++ rows_at rows second
+
+  -- the merges that a condition keeps
+  pub kept-tried : (keeps : Solution ℕ → Bool) (old half made : List (Solution ℕ))
+      → half ≡ old ++ filter keeps (merges nat_eq μ (rows_at rows first)) → made ≡ half ++ filter keeps (merges nat_eq μ (rows_at rows second))
+      → IsSameBag made (old ++ filter keeps (merges nat_eq μ rows))
+  kept-tried keeps old half made e f =
+      subst (λ (l : List (Solution ℕ)). IsSameBag l (old ++ filter keeps (merges nat_eq μ rows))) (sym all)
+      (appended old (filter keeps (merges nat_eq μ both)) (filter keeps (merges nat_eq μ rows))
+      (filter-IsSameBag nat_eq Decides-eqb keeps (merges nat_eq μ both) (merges nat_eq μ rows)
+      (merges-tried nat_eq μ (may_meet nat_eq key μ) (may_meet-covers nat_eq key μ) both rows tried_two Decides-eqb)))
     where
-      all : made ≡ old ++ merges nat_eq μ (rows_at rows first ++ rows_at rows second)
-      all = f ∙ ap (λ (l : List (Solution ℕ)). l ++ merges nat_eq μ (rows_at rows second)) e
-          ∙ append_assoc old (merges nat_eq μ (rows_at rows first)) (merges nat_eq μ (rows_at rows second))
-          ∙ ap (λ (l : List (Solution ℕ)). old ++ l) (sym (merges-append μ (rows_at rows first) (rows_at rows second)))
+      kept : filter keeps (merges nat_eq μ both) ≡ filter keeps (merges nat_eq μ (rows_at rows first)) ++ filter keeps (merges nat_eq μ (rows_at rows second))
+      kept = ap (filter keeps) (merges-append μ (rows_at rows first) (rows_at rows second)) ∙ filter-append keeps (merges nat_eq μ (rows_at rows first)) (merges nat_eq μ (rows_at rows second))
+
+      all : made ≡ old ++ filter keeps (merges nat_eq μ both)
+      all = f ∙ ap (λ (l : List (Solution ℕ)). l ++ filter keeps (merges nat_eq μ (rows_at rows second))) e
+          ∙ append_assoc old (filter keeps (merges nat_eq μ (rows_at rows first))) (filter keeps (merges nat_eq μ (rows_at rows second)))
+          ∙ ap (λ (l : List (Solution ℕ)). old ++ l) (sym kept)
+
+  -- a left row of which neither list gives a merge
+  pub alone_both : (keeps : Solution ℕ → Bool) → (alone nat_eq keeps (rows_at rows first) μ && alone nat_eq keeps (rows_at rows second) μ) ≡ alone nat_eq keeps rows μ
+  alone_both keeps =
+      sym (list_all-append (λ ν. not (is_compatible nat_eq μ ν && keeps (merge μ ν))) (rows_at rows first) (rows_at rows second))
+      ∙ alone-tried nat_eq μ (may_meet nat_eq key μ) (may_meet-covers nat_eq key μ) both rows tried_two keeps
 
   pub apart_both : (is_apart (rows_at rows first) μ && is_apart (rows_at rows second) μ) ≡ is_apart rows μ
   apart_both =
       sym (list_all-append (λ ν. not (is_compatible nat_eq μ ν) || not (share μ ν)) (rows_at rows first) (rows_at rows second))
       ∙ apart-tried nat_eq μ (may_meet nat_eq key μ) (may_meet-covers nat_eq key μ) (rows_at rows first ++ rows_at rows second) rows tried_two
 
-  pub left_join-tried : (keeps : Solution ℕ → Bool) (a b : Bool) (old half made all : List (Solution ℕ))
-      → a ≡ alone nat_eq keeps (rows_at rows first) μ → b ≡ alone nat_eq keeps (rows_at rows second) μ
-      → half ≡ old ++ filter keeps (merges nat_eq μ (rows_at rows first)) → made ≡ half ++ filter keeps (merges nat_eq μ (rows_at rows second))
-      → all ≡ made ++ row_if (a && b) μ
-      → IsSameBag all (old ++ left_row nat_eq keeps rows μ)
-  left_join-tried keeps a b old half made all ea eb e f g =
-      subst (λ (l : List (Solution ℕ)). IsSameBag l (old ++ left_row nat_eq keeps rows μ)) (sym whole)
-      (appended old (left_row nat_eq keeps both μ) (left_row nat_eq keeps rows μ)
-      (left_row-tried nat_eq μ (may_meet nat_eq key μ) (may_meet-covers nat_eq key μ) both rows tried_two Decides-eqb keeps))
-    where
-      both : List (Solution ℕ)
-      both = rows_at rows first ++ rows_at rows second
+-- a condition that is true of every row
+pub filter-every : (rows : List (Solution ℕ)) → filter (λ μ. true) rows ≡ rows
+filter-every [] = refl
+filter-every (μ ∷ rows) = ap (λ (l : List (Solution ℕ)). μ ∷ l) (filter-every rows)
 
-      kept : filter keeps (merges nat_eq μ both) ≡ filter keeps (merges nat_eq μ (rows_at rows first)) ++ filter keeps (merges nat_eq μ (rows_at rows second))
-      kept = ap (filter keeps) (merges-append μ (rows_at rows first) (rows_at rows second)) ∙ filter-append keeps (merges nat_eq μ (rows_at rows first)) (merges nat_eq μ (rows_at rows second))
-
-      open_is : (a && b) ≡ alone nat_eq keeps both μ
-      open_is = (λ j. ea j && eb j) ∙ sym (list_all-append (λ ν. not (is_compatible nat_eq μ ν && keeps (merge μ ν))) (rows_at rows first) (rows_at rows second))
-
-      whole : all ≡ old ++ left_row nat_eq keeps both μ
-      whole =
-          g ∙ (λ j. (f ∙ ap (λ (l : List (Solution ℕ)). l ++ filter keeps (merges nat_eq μ (rows_at rows second))) e) j ++ row_if (open_is j) μ)
-          ∙ ap (λ (l : List (Solution ℕ)). l ++ row_if (alone nat_eq keeps both μ) μ)
-          (append_assoc old (filter keeps (merges nat_eq μ (rows_at rows first))) (filter keeps (merges nat_eq μ (rows_at rows second))) ∙ ap (λ (l : List (Solution ℕ)). old ++ l) (sym kept))
-          ∙ append_assoc old (filter keeps (merges nat_eq μ both)) (row_if (alone nat_eq keeps both μ) μ)
+-- the kept merges of a left row, and then the row itself if there are none
+pub left_row-added : (keeps : Solution ℕ → Bool) (rows : List (Solution ℕ)) (μ : Solution ℕ) (old merged made : List (Solution ℕ))
+    → IsSameBag merged (old ++ filter keeps (merges nat_eq μ rows)) → made ≡ merged ++ row_if (alone nat_eq keeps rows μ) μ
+    → IsSameBag made (old ++ left_row nat_eq keeps rows μ)
+left_row-added keeps rows μ old merged made h e =
+    let kept = filter keeps (merges nat_eq μ rows) in
+    let itself = row_if (alone nat_eq keeps rows μ) μ in
+    subst (λ (l : List (Solution ℕ)). IsSameBag l (old ++ left_row nat_eq keeps rows μ)) (sym e)
+    (subst (λ (l : List (Solution ℕ)). IsSameBag (merged ++ itself) l) (append_assoc old kept itself)
+    (IsPermutation-append merged (old ++ kept) itself itself h (IsPermutation-refl itself)))

@@ -17,7 +17,6 @@ use Rattle.algebra_model.specs.Solve.{alone}
 use Rattle.row_join.specs.Numbers.{passes, all_pass}
 use Rattle.row_join.specs.Pairing.{is_apart, row_if}
 use Rattle.row_join.specs.Places.{rows_at}
-use Rattle.row_join.proofs.NumberLaws.{passes-merge}
 use Rattle.row_join.proofs.PairLaws.{rows_at-more, merges-more}
 
 -- ν, the right row of this iteration, is at the place that is item i of the list of places
@@ -27,16 +26,6 @@ module _ (rows : List (Solution ℕ)) (places : List ℕ) (i : ℕ) (μ ν : Sol
 
   rows_more : rows_at rows (take (i + 1) places) ≡ rows_at rows (take i places) ++ ν ∷ []
   rows_more = rows_at-more rows places i low ∙ ap (λ (x : Solution ℕ). rows_at rows (take i places) ++ x ∷ []) is_row
-
-  pub merges-turn : (old made made' : List (Solution ℕ)) (b : Bool) → b ≡ is_compatible nat_eq μ ν
-      → made ≡ old ++ merges nat_eq μ (rows_at rows (take i places))
-      → made' ≡ made ++ (if b then merge μ ν ∷ [] else [])
-      → made' ≡ old ++ merges nat_eq μ (rows_at rows (take (i + 1) places))
-  merges-turn old made made' b e h k =
-      k ∙ ap (λ (l : List (Solution ℕ)). l ++ (if b then merge μ ν ∷ [] else [])) h
-      ∙ append_assoc old (merges nat_eq μ (rows_at rows (take i places))) (if b then merge μ ν ∷ [] else [])
-      ∙ ap (λ (l : List (Solution ℕ)). old ++ l) (sym (merges-more μ ν (rows_at rows (take i places)) b e))
-      ∙ ap (λ (l : List (Solution ℕ)). old ++ merges nat_eq μ l) (sym rows_more)
 
   -- a right row that removes the left row
   differs : Solution ℕ → Bool
@@ -107,10 +96,6 @@ row_passes p (μ ∷ rows) zero ν h at =
     let e : μ ≡ ν = cc in
     ap (passes p) (sym e) ∙ (and_parts (passes p μ) (all_pass p rows) h).0
 row_passes p (μ ∷ rows) (suc i) ν h at = row_passes p rows i ν (and_parts (passes p μ) (all_pass p rows) h).1 at
-
-pub merged_passes : (p : ℕ → Bool) (rows : List (Solution ℕ)) (i : ℕ) (μ ν row merged : Solution ℕ) → passes p μ ≡ true → all_pass p rows ≡ true → slice_get rows i ≡ Some ν
-    → row ≡ merged → merged ≡ merge μ ν → passes p row ≡ true
-merged_passes p rows i μ ν row merged h k at e f = ap (passes p) (e ∙ f) ∙ passes-merge p μ ν h (row_passes p rows i ν k at)
 
 -- one more left row
 module _ (gives : Solution ℕ → List (Solution ℕ)) (left : List (Solution ℕ)) where

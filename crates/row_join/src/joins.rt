@@ -1,16 +1,17 @@
 //! Join (SPARQL 1.1 Query Language, section 18.5).
-ghost use Rattle.std.specs.Prelude.{◌≡◌, ◌++◌, ◌<◌, ◌≤◌, ℕ, Bool, true, All, OnOk, IfErr, IfOk, length, nat_eq};
+ghost use Rattle.std.specs.Prelude.{◌≡◌, ◌≤◌, ℕ, Bool, true, IfErr, IfOk, length, nat_eq};
 ghost use Rattle.algebra_model.specs.Bag.{IsSameBag};
-ghost use Rattle.algebra_model.specs.Operators.{join, merges};
+ghost use Rattle.algebra_model.specs.Operators.{join};
 ghost use Rattle.row_join.specs.Numbers.{all_pass};
-ghost use Rattle.row_join.specs.Places.{rows_at};
 ghost use Rattle.row_pieces.specs.How.{IsRunnable, HasOneWorker};
 ghost use Rattle.row_pieces.specs.declared.fault.EvalFault.TheVariants.{Memory};
 
+use crate::left_joins::RowTest;
 use crate::left_rows::{Buffers, Pairing, pair_rows};
+use crate::merging::add_merges;
 use crate::right_side::RightSide;
 use piece_pool::Gate;
-use row_core::{Rows, is_compatible, merge_into};
+use row_core::Rows;
 use row_pieces::{Context, EvalFault, How};
 use std::alloc::{AllocError, Global};
 use std::hash::RandomState;
@@ -67,41 +68,28 @@ impl Pairing for Merges {
 
     fn add(
         &self,
-        _alloc: Global,
+        alloc: Global,
         row: &[Option<u64>],
         right: &RightSide,
         buffers: &mut Buffers,
         made: &mut Rows,
     ) -> Result<(), AllocError> {
-        let tried = right.tried(row, &mut buffers.numbers)?;
-        add_merges(row, right.rows, tried.first, buffers, made)?;
-        add_merges(row, right.rows, tried.second, buffers, made)?;
+        add_merges(alloc, &Always {}, row, right, buffers, made)?;
         Ok(())
     }
 }
 
-/// Adds the merges of a row with those right rows at these places that are compatible with it.
-fn add_merges(
-    row: &[Option<u64>],
-    right: &Rows,
-    places: &[usize],
-    buffers: &mut Buffers,
-    made: &mut Rows,
-) -> Result<(), AllocError>
-    requires row_wide { length row.now ≡ right.now.width }
-    requires made_wide { made.old.width ≡ right.now.width }
-    requires inside { All (λ i. i < length right.now.rows) places.now }
-    ensures rows { OnOk result (made.new.rows
-        ≡ made.old.rows ++ merges nat_eq row.now (rows_at right.now.rows places.now)) }
-    ensures width { OnOk result (made.new.width ≡ made.old.width) }
-{
-    for i in 0..places.len() {
-        right.read(places[i], &mut buffers.other)?;
-        let other = buffers.other.as_slice();
-        if is_compatible(row, other) {
-            merge_into(&mut buffers.merged, row, other)?;
-            made.push(&buffers.merged)?;
-        }
+/// The condition of a join, which is true of every row.
+struct Always {}
+
+impl RowTest for Always {
+    ghost use Rattle.std.specs.Prelude.{true};
+
+    ghost knows = { λ _ _. true };
+
+    ghost keeps = { λ _ _. true };
+
+    fn keeps(&self, _alloc: Global, _row: &[Option<u64>]) -> Result<bool, AllocError> {
+        Ok(true)
     }
-    Ok(())
 }

@@ -1,17 +1,16 @@
 //! LeftJoin (SPARQL 1.1 Query Language, section 18.5).
-ghost use Rattle.std.specs.Prelude.{◌≡◌, ◌++◌, ◌<◌, ◌≤◌, ℕ, Bool, true, filter, All, OnOk, IfErr, IfOk, length, nat_eq};
+ghost use Rattle.std.specs.Prelude.{◌≡◌, ◌≤◌, ℕ, Bool, true, IfErr, IfOk, length, nat_eq};
 ghost use Rattle.algebra_model.specs.Bag.{IsSameBag};
-ghost use Rattle.algebra_model.specs.Operators.{left_join, merges};
-ghost use Rattle.algebra_model.specs.Solve.{alone};
-ghost use Rattle.row_join.specs.Numbers.{passes, all_pass};
-ghost use Rattle.row_join.specs.Places.{rows_at};
+ghost use Rattle.algebra_model.specs.Operators.{left_join};
+ghost use Rattle.row_join.specs.Numbers.{all_pass};
 ghost use Rattle.row_pieces.specs.How.{IsRunnable, HasOneWorker};
 ghost use Rattle.row_pieces.specs.declared.fault.EvalFault.TheVariants.{Memory};
 
 use crate::left_rows::{Buffers, Pairing, pair_rows};
+use crate::merging::add_merges;
 use crate::right_side::RightSide;
 use piece_pool::Gate;
-use row_core::{Rows, is_compatible, merge_into};
+use row_core::Rows;
 use row_pieces::{Context, EvalFault, How};
 use std::alloc::{AllocError, Global};
 use std::hash::RandomState;
@@ -106,65 +105,9 @@ impl<'t, T: RowTest> Pairing for MergesOrItself<'t, T> {
         buffers: &mut Buffers,
         made: &mut Rows,
     ) -> Result<(), AllocError> {
-        let tried = right.tried(row, &mut buffers.numbers)?;
-        let first = add_kept(
-            alloc,
-            self.test,
-            row,
-            right.rows,
-            tried.first,
-            buffers,
-            made,
-        )?;
-        let second = add_kept(
-            alloc,
-            self.test,
-            row,
-            right.rows,
-            tried.second,
-            buffers,
-            made,
-        )?;
-        if first && second {
+        if add_merges(alloc, self.test, row, right, buffers, made)? {
             made.push(row)?;
         }
         Ok(())
     }
-}
-
-/// Adds the merges of a row with the right rows at these places for which the condition is true.
-/// Returns whether there are none.
-fn add_kept<T: RowTest>(
-    alloc: Global,
-    test: &T,
-    row: &[Option<u64>],
-    right: &Rows,
-    places: &[usize],
-    buffers: &mut Buffers,
-    made: &mut Rows,
-) -> Result<bool, AllocError>
-    requires row_wide { length row.now ≡ right.now.width }
-    requires made_wide { made.old.width ≡ right.now.width }
-    requires inside { All (λ i. i < length right.now.rows) places.now }
-    requires row_known { passes (T.knows test.now) row.now ≡ true }
-    requires right_known { all_pass (T.knows test.now) right.now.rows ≡ true }
-    ensures rows { OnOk result (made.new.rows ≡ made.old.rows
-        ++ filter (T.keeps test.now) (merges nat_eq row.now (rows_at right.now.rows places.now))) }
-    ensures alone { IfOk result (λ answer. answer
-        ≡ alone nat_eq (T.keeps test.now) (rows_at right.now.rows places.now) row.now) }
-    ensures width { OnOk result (made.new.width ≡ made.old.width) }
-{
-    let mut alone = true;
-    for i in 0..places.len() {
-        right.read(places[i], &mut buffers.other)?;
-        let other = buffers.other.as_slice();
-        if is_compatible(row, other) {
-            merge_into(&mut buffers.merged, row, other)?;
-            if test.keeps(alloc, &buffers.merged)? {
-                made.push(&buffers.merged)?;
-                alone = false;
-            }
-        }
-    }
-    Ok(alone)
 }

@@ -23,7 +23,7 @@
 //!
 //! Reading order: `keyed` (over `groups`, `keys` and `hashing`, the hash table), `key_choice` (the variables of the key),
 //! `right_side` (the keyed rows, and the candidates for a left row), `left_rows` (the loop over the
-//! left rows, in pieces), `joins`, `left_joins`, `minus_operator`, `distinct_rows`.
+//! left rows, in pieces), `merging` (the merges of a left row), `joins`, `left_joins`, `minus_operator`, `distinct_rows`.
 //!
 //! ```text
 //! join((?s: 1), (?s: 2) ; (?s: 1, ?o: 7), (?o: 9))
@@ -43,6 +43,7 @@ mod keyed;
 mod keys;
 mod left_joins;
 mod left_rows;
+mod merging;
 mod minus_operator;
 mod right_side;
 

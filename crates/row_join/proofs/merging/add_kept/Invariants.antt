@@ -2,7 +2,7 @@ use Rattle.std.proofs.Common.{◌≡◌, ◌++◌, take, nat_eq, filter}
 use Rattle.algebra_model.specs.Operators.{merges}
 use Rattle.algebra_model.specs.Solve.{alone}
 use Rattle.row_join.specs.Places.{rows_at}
-use Rattle.row_join.proofs.left_joins.add_kept.Given as goal
+use Rattle.row_join.proofs.merging.add_kept.Given as goal
 
 abbrev pub invariant-loop-i : goal.invariant-loop-i
 invariant-loop-i g l = record {
