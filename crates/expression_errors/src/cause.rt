@@ -12,7 +12,7 @@ use std::alloc::{AllocError, Global};
 use term_values::{compare, truth};
 
 /// Why an expression is an error.
-#[derive(Debug, Drop, PartialEq, Eq)]
+#[derive(PartialEq, Eq)]
 pub enum Cause {
     /// The variable with this number is unbound.
     Unbound(usize),
@@ -33,6 +33,23 @@ pub enum Cause {
     IllFormed(Text),
     /// A literal of this datatype has no effective boolean value.
     NoTruth(Text),
+}
+
+impl Drop for Cause {
+    /// Written by hand (docs/PROOF.md).
+    fn drop(self) {
+        match self {
+            Cause::Unbound(_)
+            | Cause::SomeUnbound(_)
+            | Cause::Call
+            | Cause::NotLiteral
+            | Cause::Tagged
+            | Cause::Kinds
+            | Cause::Datatype(_)
+            | Cause::IllFormed(_)
+            | Cause::NoTruth(_) => {}
+        }
+    }
 }
 
 impl Cause {

@@ -14,10 +14,16 @@ use std::sync::atomic::{AtomicU64, Ordering};
 const MOST_DATATYPES: usize = 16;
 
 /// The number of rows with a cause that has a datatype. The cause is set by the first such row.
-#[derive(Drop)]
 struct DatatypeCounter {
     cause: OnceLock<Cause>,
     rows: AtomicU64,
+}
+
+impl Drop for DatatypeCounter {
+    /// Written by hand (docs/PROOF.md).
+    fn drop(self) {
+        let DatatypeCounter { cause: _, rows: _ } = self;
+    }
 }
 
 impl DatatypeCounter {
@@ -54,7 +60,6 @@ impl DatatypeCounter {
 }
 
 /// The counts of one condition or value.
-#[derive(Drop)]
 pub(crate) struct PartCounter {
     /// 1 if the condition or value was no error over some row.
     valued: AtomicU64,
@@ -68,6 +73,23 @@ pub(crate) struct PartCounter {
     tagged: AtomicU64,
     kinds: AtomicU64,
     datatypes: Vec<DatatypeCounter>,
+}
+
+impl Drop for PartCounter {
+    /// Written by hand (docs/PROOF.md).
+    fn drop(self) {
+        let PartCounter {
+            valued: _,
+            unbound: _,
+            first_variable: _,
+            last_variable: _,
+            calls: _,
+            not_literals: _,
+            tagged: _,
+            kinds: _,
+            datatypes: _,
+        } = self;
+    }
 }
 
 impl PartCounter {
@@ -168,7 +190,6 @@ fn loaded(rows: &AtomicU64) -> u64 {
 }
 
 /// The counts of the equal expressions of a plan.
-#[derive(Drop)]
 pub(crate) struct Counter {
     digest: u64,
     /// The numbers of the expressions.
@@ -179,6 +200,19 @@ pub(crate) struct Counter {
     partial: AtomicU64,
     /// A counter for each FILTER of the condition.
     pub(crate) parts: Vec<PartCounter>,
+}
+
+impl Drop for Counter {
+    /// Written by hand (docs/PROOF.md).
+    fn drop(self) {
+        let Counter {
+            digest: _,
+            expressions: _,
+            valued: _,
+            partial: _,
+            parts: _,
+        } = self;
+    }
 }
 
 impl Counter {
@@ -222,7 +256,7 @@ impl Counter {
 }
 
 /// What is known of an expression before an evaluation.
-#[derive(Clone, Copy, Debug, PartialEq, Eq, PartialOrd, Ord)]
+#[derive(Clone, Copy, PartialEq, Eq, PartialOrd, Ord)]
 pub struct Key {
     /// The digest of the expression and its operator.
     pub digest: u64,
@@ -243,7 +277,6 @@ pub struct ErrorCounts {
 }
 
 /// The rows over which equal expressions were errors, for one cause.
-#[derive(Drop)]
 pub struct Tally {
     /// The numbers of the expressions, from the least.
     pub expressions: Vec<usize>,
@@ -255,6 +288,20 @@ pub struct Tally {
     pub is_partial: bool,
     /// Whether this FILTER or BIND was an error over every row.
     pub is_everywhere: bool,
+}
+
+impl Drop for Tally {
+    /// Written by hand (docs/PROOF.md).
+    fn drop(self) {
+        let Tally {
+            expressions: _,
+            filter: _,
+            cause: _,
+            rows: _,
+            is_partial: _,
+            is_everywhere: _,
+        } = self;
+    }
 }
 
 impl ErrorCounts {

@@ -4,7 +4,7 @@ use std::alloc::{AllocError, Global};
 use std::hash::{DefaultHasher, Hash, Hasher};
 
 /// The operator that an expression belongs to.
-#[derive(Clone, Copy, Debug)]
+#[derive(Clone, Copy)]
 pub enum Owner {
     Filter,
     LeftJoin,
@@ -66,21 +66,33 @@ fn push_operands<'a>(rest: &mut Vec<&'a Expr>, part: &'a Expr) -> Result<(), All
         Expr::Or { left, right }
         | Expr::And { left, right }
         | Expr::Compare { left, right, .. }
-        | Expr::SameTerm { left, right } => {
-            rest.push(left)?;
-            rest.push(right)?;
-            Ok(())
-        }
+        | Expr::SameTerm { left, right } => push_sides(rest, left, right),
         Expr::Not(inner) => Ok(rest.push(inner)?),
         Expr::Call { argument, .. } => Ok(rest.push(argument)?),
-        Expr::In { item, list } => {
-            rest.push(item)?;
-            for member in list {
-                rest.push(member)?;
-            }
-            Ok(())
-        }
+        Expr::In { item, list } => push_members(rest, item, list),
     }
+}
+
+fn push_sides<'a>(
+    rest: &mut Vec<&'a Expr>,
+    left: &'a Expr,
+    right: &'a Expr,
+) -> Result<(), AllocError> {
+    rest.push(left)?;
+    Ok(rest.push(right)?)
+}
+
+/// Appends the item of an IN and the members of its list.
+fn push_members<'a>(
+    rest: &mut Vec<&'a Expr>,
+    item: &'a Expr,
+    list: &'a [Expr],
+) -> Result<(), AllocError> {
+    rest.push(item)?;
+    for member in list {
+        rest.push(member)?;
+    }
+    Ok(())
 }
 
 fn comparison_number(operator: Comparison) -> u8 {

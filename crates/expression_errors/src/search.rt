@@ -309,15 +309,29 @@ fn cause_of_member<'a, R: Lookup>(
         return Ok(None);
     };
     for member in list {
-        let Some(other) = operand(alloc, member, row)? else {
-            rest.push((member, Sense::Unknown))?;
-            continue;
-        };
-        if compare(Comparison::Equal, &one, &other).is_none() {
-            if let Some(cause) = unexpected_cause(alloc, Comparison::Equal, &one, &other, sense)? {
-                return Ok(Some(cause));
-            }
+        let found = cause_with_member(alloc, &one, member, row, sense, rest)?;
+        if found.is_some() {
+            return Ok(found);
         }
     }
     Ok(None)
+}
+
+/// Returns the cause of the comparison of the item with one member, or adds the member if it is an error.
+fn cause_with_member<'a, R: Lookup>(
+    alloc: Global,
+    item: &Term,
+    member: &'a Expr,
+    row: &R,
+    sense: Sense,
+    rest: &mut Vec<Wrong<'a>>,
+) -> Result<Option<Cause>, AllocError> {
+    let Some(other) = operand(alloc, member, row)? else {
+        rest.push((member, Sense::Unknown))?;
+        return Ok(None);
+    };
+    if compare(Comparison::Equal, item, &other).is_some() {
+        return Ok(None);
+    }
+    unexpected_cause(alloc, Comparison::Equal, item, &other, sense)
 }
