@@ -4,7 +4,6 @@ use rdf_core::Term;
 
 /// A place of a triple pattern: a variable of the plan, a blank node label of the pattern, or a
 /// term.
-#[derive(Debug)]
 pub enum PatternTerm {
     /// The number of a variable of the plan.
     Variable(usize),
@@ -24,7 +23,7 @@ impl Drop for PatternTerm {
 }
 
 /// A triple pattern of a basic graph pattern.
-#[derive(Debug, Drop)]
+#[derive(Drop)]
 pub struct TriplePattern {
     pub subject: PatternTerm,
     pub predicate: PatternTerm,
@@ -32,7 +31,6 @@ pub struct TriplePattern {
 }
 
 /// The name after GRAPH: an IRI, or a variable that ranges over the names of all named graphs.
-#[derive(Debug)]
 pub enum GraphName {
     /// The number of a variable of the plan.
     Variable(usize),
@@ -50,7 +48,7 @@ impl Drop for GraphName {
 }
 
 /// An operator of the algebra with its inputs. Each variant has the name that SPARQL gives it.
-#[derive(Debug, Drop)]
+#[derive(Drop)]
 pub enum Operator {
     /// A basic graph pattern with its number of blank node labels.
     Pattern {

@@ -21,11 +21,21 @@ use std::alloc::{AllocError, Global};
 
 /// The operator before the open basic graph pattern, the triples of that pattern, and the filters
 /// so far, combined with `&&`.
-#[derive(Drop)]
 pub struct Part<'a> {
     pub before: Box<Operator>,
     pub triples: Vec<&'a Triple>,
     pub filters: Option<Box<Expr>>,
+}
+
+impl<'a> Drop for Part<'a> {
+    /// Written by hand (docs/PROOF.md).
+    fn drop(self) {
+        let Part {
+            before: _,
+            triples: _,
+            filters: _,
+        } = self;
+    }
 }
 
 impl<'a> Part<'a> {
