@@ -3,7 +3,7 @@ use rdf_core::Term;
 use sparql_tree::{Comparison, Function};
 
 /// An expression. Its variables are numbers of the variables of the plan.
-#[derive(Debug, Drop)]
+#[derive(Drop)]
 pub enum Expr {
     /// The number of a variable.
     Variable(usize),
