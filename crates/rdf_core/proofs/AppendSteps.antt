@@ -11,10 +11,6 @@ three old a b c xs ys zs e f g = two old a c xs (ys ++ zs) e (two a b c ys zs f 
 pub four : (old a b c d xs ys zs ws : List ℕ) → a ≡ old ++ xs → b ≡ a ++ ys → c ≡ b ++ zs → d ≡ c ++ ws → d ≡ old ++ (xs ++ (ys ++ (zs ++ ws)))
 four old a b c d xs ys zs ws e f g h = two old a d xs (ys ++ (zs ++ ws)) e (three a b c d ys zs ws f g h)
 
--- what is appended is an equal text
-pub equal_text : (a b xs ys : List ℕ) → b ≡ a ++ xs → xs ≡ ys → b ≡ a ++ ys
-equal_text a b xs ys e f = e ∙ ap (λ zs. a ++ zs) f
-
 -- an error after some bytes
 pub error_after : {T E : Type 0} (r : Result T E) (old new more : List ℕ) → new ≡ old ++ more → OnErr r ((more : List ℕ) × (new ≡ old ++ more))
 error_after (Ok v) old new more e = tt

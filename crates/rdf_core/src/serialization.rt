@@ -1,6 +1,6 @@
 //! The N-Quads form of a term (RDF 1.1 N-Quads, section 4).
 
-ghost use Rattle.std.specs.Prelude.{◌≡◌, ◌++◌, List, ℕ, OnOk, OnErr};
+ghost use Rattle.std.specs.Prelude.{◌≡◌, ◌++◌, List, ℕ, OnOk, OnErr, codes};
 ghost use Rattle.std.specs.List.{flat_map};
 ghost use Rattle.std.specs.Str.{bytes_eq};
 ghost use Rattle.rdf_core.specs.Serialization.{escaped, suffix, serialization};
@@ -44,23 +44,57 @@ fn is_xsd_string(datatype: &[u8]) -> bool
     datatype == XSD_STRING.as_bytes()
 }
 
+/// Appends two texts.
+fn put_both(out: &mut Vec<u8>, first: &[u8], second: &[u8]) -> Result<(), AllocError>
+    ensures ok { OnOk result (out.new.items ≡ out.old.items ++ (first.now ++ second.now)) }
+    ensures err { OnErr result ((more : List ℕ) × (out.new.items ≡ out.old.items ++ more)) }
+{
+    out.extend_from_slice(first)?;
+    out.extend_from_slice(second)?;
+    Ok(())
+}
+
+/// Appends an IRI and the closing bracket after a text that ends with the opening one.
+fn put_iri(out: &mut Vec<u8>, opening: &[u8], iri: &[u8]) -> Result<(), AllocError>
+    ensures ok { OnOk result (out.new.items ≡ out.old.items ++ (opening.now ++ (iri.now ++ codes ">"))) }
+    ensures err { OnErr result ((more : List ℕ) × (out.new.items ≡ out.old.items ++ more)) }
+{
+    out.extend_from_slice(opening)?;
+    out.extend_from_slice(iri)?;
+    out.push(b'>')?;
+    Ok(())
+}
+
 fn put_suffix(out: &mut Vec<u8>, datatype: &[u8], tag: &Option<Text>) -> Result<(), AllocError>
     ensures ok { OnOk result (out.new.items ≡ out.old.items ++ suffix datatype.now tag.now) }
     ensures err { OnErr result ((more : List ℕ) × (out.new.items ≡ out.old.items ++ more)) }
 {
     match tag {
-        Some(tag) => {
-            out.push(b'@')?;
-            out.extend_from_slice(tag.as_str().as_bytes())?;
-        }
+        Some(tag) => put_both(out, b"@", tag.as_str().as_bytes()),
         None => {
-            if !is_xsd_string(datatype) {
-                out.extend_from_slice(b"^^<")?;
-                out.extend_from_slice(datatype)?;
-                out.push(b'>')?;
+            if is_xsd_string(datatype) {
+                Ok(())
+            } else {
+                put_iri(out, b"^^<", datatype)
             }
         }
     }
+}
+
+fn put_literal(
+    out: &mut Vec<u8>,
+    lexical: &[u8],
+    datatype: &[u8],
+    tag: &Option<Text>,
+) -> Result<(), AllocError>
+    ensures ok { OnOk result (out.new.items ≡ out.old.items
+        ++ (codes "\"" ++ (flat_map escaped lexical.now ++ (codes "\"" ++ suffix datatype.now tag.now)))) }
+    ensures err { OnErr result ((more : List ℕ) × (out.new.items ≡ out.old.items ++ more)) }
+{
+    out.push(b'"')?;
+    put_lexical(out, lexical)?;
+    out.push(b'"')?;
+    put_suffix(out, datatype, tag)?;
     Ok(())
 }
 
@@ -69,27 +103,17 @@ fn put_term(out: &mut Vec<u8>, term: &Term) -> Result<(), AllocError>
     ensures err { OnErr result ((more : List ℕ) × (out.new.items ≡ out.old.items ++ more)) }
 {
     match term {
-        Term::Blank(label) => {
-            out.extend_from_slice(b"_:")?;
-            out.extend_from_slice(label.as_str().as_bytes())?;
-        }
-        Term::Iri(text) => {
-            out.push(b'<')?;
-            out.extend_from_slice(text.as_str().as_bytes())?;
-            out.push(b'>')?;
-        }
+        Term::Blank(label) => put_both(out, b"_:", label.as_str().as_bytes()),
+        Term::Iri(text) => put_iri(out, b"<", text.as_str().as_bytes()),
         Term::Literal {
             lexical,
             datatype,
             tag,
         } => {
-            out.push(b'"')?;
-            put_lexical(out, lexical.as_str().as_bytes())?;
-            out.push(b'"')?;
-            put_suffix(out, datatype.as_str().as_bytes(), tag)?;
+            let form = lexical.as_str().as_bytes();
+            put_literal(out, form, datatype.as_str().as_bytes(), tag)
         }
     }
-    Ok(())
 }
 
 /// Appends the N-Quads form of a term (RDF 1.1 N-Quads, section 4):
