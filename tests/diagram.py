@@ -101,7 +101,7 @@ def parts():
     yield box(40, 692, 240, "rdf_core", "terms, quads, lexical forms", kind="base", height=102)
     yield box(293, 692, 240, "algebra_model", "definitions and laws", "of the SPARQL algebra", kind="base", height=102)
     yield box(546, 692, 240, "piece_pool", "worker threads run the", "tasks of a job; numbers from", "piece_board, a lock-free counter", kind="base", height=102)
-    yield box(799, 692, 241, "spq_report", "messages: line_diagnosis, excerpt,", "query_diagnosis, command_help,", "query_notes, malformed_lines", kind="program", height=102)
+    yield box(799, 692, 241, "spq_report", "messages: line_diagnosis,", "query_diagnosis, excerpt,", "query_notes, malformed_lines", kind="program", height=102)
     yield box(40, 814, 1000, "spq_part", "what spq-dask runs for parts of a document: part_core; cluster_parts splits and counts, query_plan plans, result_merge merges;",
               "query_split, query_parts, row_merge and partition_laws: the laws of splitting and merging", kind="program")
 

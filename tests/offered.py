@@ -20,7 +20,7 @@ EMPTY = "it has no contract: nothing depends on what it returns"
 # What a call lacks, and why. A name without a call is a whole crate.
 EXEMPT = {
     "cluster_parts": (CLUSTER, TEST), "part_core": (CLUSTER, TEST), "query_plan": (CLUSTER, TEST), "result_merge": (CLUSTER, TEST),
-    "command_help::message": (MESSAGES, CLAUSE), "query_notes::counts_of": (MESSAGES, CLAUSE), "query_notes::notes_on": (MESSAGES, CLAUSE),
+    "spq_command::message": (MESSAGES, CLAUSE), "query_notes::counts_of": (MESSAGES, CLAUSE), "query_notes::notes_on": (MESSAGES, CLAUSE),
     "query_notes::outline_of": (MESSAGES, CLAUSE), "spq_report::report": (MESSAGES, CLAUSE), "spq_report::Console::new": (MESSAGES, CLAUSE),
     "spq_report::Console::show": (MESSAGES, CLAUSE), "spq_report::Console::watch": (MESSAGES, CLAUSE),
     "spq_report::Console::end": (MESSAGES, CLAUSE), "spq_report::Console::is_watched": (MESSAGES, CLAUSE),

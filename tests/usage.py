@@ -15,7 +15,8 @@ sys.dont_write_bytecode = True
 from sources import ROOT
 
 PAGE, MAN, COMPLETION = "docs/USAGE.md", "docs/spq.1", "completions/spq.bash"
-COMMAND_LINE, TEXTS, PROGRAM = "crates/spq_command/src/command_line.rt", "crates/command_help/src/texts.rt", "crates/command_help/src/program.rt"
+COMMAND_LINE = "crates/spq_command/src/command_line.rt"
+TEXTS, PROGRAM = "crates/spq_command/src/help/texts.rt", "crates/spq_command/src/help/program.rt"
 REPORT, WORDS, GRAMMAR = "crates/spq_run/specs/Report.antt", "crates/sparql_lexer/specs/Words.antt", "crates/sparql_grammar/specs/Productions.antt"
 DESCRIPTION = "evaluate a SPARQL SELECT query over an N-Quads document, or check the document"
 # The constants of an option: the most, and the default.

@@ -1,9 +1,8 @@
 //! The message for each fault.
 
 use crate::account::Account;
-use command_help::message;
 use nquads_core::Device;
-use spq_command::Command;
+use spq_command::{Command, message};
 use spq_run::{RunFault, Stage, write_fault};
 use std::alloc::{AllocError, Global};
 use std::io;

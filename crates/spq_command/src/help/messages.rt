@@ -3,7 +3,7 @@
 ghost use Rattle.std.specs.Prelude.{◌≡◌, ◌≢◌, ◌==◌, false, slice_index, true};
 ghost use Rattle.std.specs.List.{list_any};
 
-use crate::program::program;
+use crate::help::program::program;
 use clap::Error;
 use clap::error::ErrorKind;
 use std::alloc::{AllocError, Global};

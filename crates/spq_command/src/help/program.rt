@@ -1,6 +1,6 @@
 //! The command lines of the program, with their help.
 
-use crate::texts::{ABOUT, ABOUT_CHECK, ABOUT_SELECT, ABOUT_TERMS, AFTER, USAGE, VERSION};
+use crate::help::texts::{ABOUT, ABOUT_CHECK, ABOUT_SELECT, ABOUT_TERMS, AFTER, USAGE, VERSION};
 use clap::builder::ValueParser;
 use clap::{Arg, Command};
 use std::alloc::{AllocError, Global};
