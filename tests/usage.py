@@ -15,8 +15,7 @@ sys.dont_write_bytecode = True
 from sources import ROOT
 
 PAGE, MAN, COMPLETION = "docs/USAGE.md", "docs/spq.1", "completions/spq.bash"
-COMMAND_LINE = "crates/spq_command/src/command_line.rt"
-TEXTS, PROGRAM = "crates/spq_command/src/help/texts.rt", "crates/spq_command/src/help/program.rt"
+TEXTS, PROGRAM = "crates/spq_command/src/texts.rt", "crates/spq_command/src/program.rt"
 REPORT, WORDS, GRAMMAR = "crates/spq_run/specs/Report.antt", "crates/sparql_lexer/specs/Words.antt", "crates/sparql_grammar/specs/Productions.antt"
 DESCRIPTION = "evaluate a SPARQL SELECT query over an N-Quads document, or check the document"
 # The constants of an option: the most, and the default.
@@ -47,7 +46,7 @@ def table(page, *head):
 
 def constants():
     """Returns the numbers that the command line's constants have."""
-    found = re.findall(r"^const (\w+): u64 = (\d+)(?: << (\d+))?;$", read(COMMAND_LINE), re.M)
+    found = re.findall(r"^pub\(crate\) const (\w+): u64 = (\d+)(?: << (\d+))?;$", read(PROGRAM), re.M)
     return {name: int(number) << int(shift or 0) for name, number, shift in found}
 
 
@@ -84,10 +83,10 @@ def option_faults(page):
         numbers = re.fullmatch(r"1 to (\d+)", limits)
         if numbers:
             found[re.match(r"`--(\w+)", name)[1]] = (int(numbers[1]), int(default))
-    faults = [f"{PAGE}: the options are {found}, in {COMMAND_LINE} {options()}"] if found != options() else []
+    faults = [f"{PAGE}: the options are {found}, in {PROGRAM} {options()}"] if found != options() else []
     for name, (most, default) in options().items():
-        help_line = re.search(rf'"{name}",\s*(\d+(?: << \d+)?),\s*"\w+",\s*"[^"]*?1 to (\d+) \[default: (\d+)\]"', read(PROGRAM))
-        if not help_line or (int(help_line[2]), int(help_line[3])) != (most, default):
+        help_line = re.search(rf'"{name}",\s*{LIMITS[name][0]},\s*"\w+",\s*"[^"]*?1 to (\d+) \[default: (\d+)\]"', read(PROGRAM))
+        if not help_line or (int(help_line[1]), int(help_line[2])) != (most, default):
             faults.append(f"{PROGRAM}: the help does not say that --{name} is 1 to {most}, by default {default}")
         if f"--{name}" not in read(COMPLETION):
             faults.append(f"{COMPLETION}: --{name} is missing")

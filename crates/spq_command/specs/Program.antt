@@ -13,9 +13,9 @@ use Rattle.spq_command.specs.declared.command.ReadOptions.{ReadOptions}
 
 -- ---- the options and the subcommands
 
--- `--name TEXT`
+-- `--name TEXT`, where the help has one name for the value
 abbrev pub text_option : Text → Rule
-text_option name = record (new_rule name) { long = Some name }
+text_option name = record (new_rule name) { long = Some name; value_names = 1 }
 
 -- `--name N`, a number from 1 to `most`
 abbrev pub number_option : Text → ℕ → Rule

@@ -1,32 +1,16 @@
-//! The command line.
-ghost use Rattle.std.specs.Prelude.{◌≡◌, ◌≢◌, ◌≤◌, [], IfErr, IfOk, codes, false, map, string_bytes};
-ghost use Rattle.clap.specs.Words.{app_of, fault_of, found_of, rows_of, rule_of, subcommand_rows_of, with_subcommand};
-ghost use Rattle.clap.specs.declared.builder.command.Command.TheViews.{out-Command as fields_of};
-ghost use Rattle.spq_command.specs.Program.{HasNumber, HasReadOptions, HasSelect, IsCommandLine, IsCommandMet, IsCommandOf, number_option, program, query_option, reading_options, select_options, with_options};
+//! The command of the arguments of a command line.
+ghost use Rattle.std.specs.Prelude.{◌≡◌, ◌≢◌, ◌≤◌, [], IfErr, IfOk, codes, map, string_bytes};
+ghost use Rattle.clap.specs.Words.{fault_of, found_of, rows_of, subcommand_rows_of};
+ghost use Rattle.spq_command.specs.Program.{HasNumber, HasReadOptions, HasSelect, IsCommandLine, IsCommandMet, IsCommandOf, program};
 ghost use Rattle.spq_command.specs.declared.command_line.CommandFault.TheVariants.{Memory};
 
 use crate::command::{Command, ReadOptions};
-use clap::builder::ValueParser;
+use crate::program::{BYTES, MOST_BYTES, MOST_ROWS, MOST_WORKERS, ROWS, WORKERS, program_line};
+use clap::ArgMatches;
 use clap::error::ErrorKind;
-use clap::{Arg, ArgMatches, Command as Line};
 use rdf_core::Text;
 use std::alloc::{AllocError, Global};
 use thiserror::Error;
-
-/// The largest number of workers. `WORKERS` is the default.
-const MOST_WORKERS: u64 = 64;
-
-const WORKERS: u64 = 4;
-
-/// The largest value of `--piece`, the smallest size of a block in bytes. `BYTES` is the default.
-const MOST_BYTES: u64 = 1 << 30;
-
-const BYTES: u64 = 65536;
-
-/// The largest number of rows of a task. `ROWS` is the default.
-const MOST_ROWS: u64 = 1 << 30;
-
-const ROWS: u64 = 1024;
 
 /// Why a command line is not a command.
 #[derive(Clone, Copy, Debug, Drop, Error, PartialEq, Eq)]
@@ -45,72 +29,6 @@ impl From<AllocError> for CommandFault {
     fn from(_refused: AllocError) -> CommandFault {
         CommandFault::Memory
     }
-}
-
-/// Makes an argument whose value is a number from 1 to `most`.
-fn number<'a>(alloc: Global, name: &'a str, most: u64) -> Arg<'a>
-    ensures rule { rule_of result ≡ number_option name.entry.now most }
-    ensures local { result.global ≡ false }
-{
-    Arg::new(alloc, name)
-        .long(name)
-        .value_parser(ValueParser::Unsigned(1, most))
-}
-
-/// Makes a subcommand with the arguments for how a document is read.
-fn reading_line<'a>(alloc: Global, name: &'a str) -> Result<Line<'a>, AllocError>
-    ensures app { IfOk result (λ line. app_of line ≡ with_options name.entry.now reading_options) }
-    ensures local { IfOk result (λ line. (fields_of line).has_globals ≡ false) }
-{
-    Line::new(alloc, name)
-        .arg(number(alloc, "workers", MOST_WORKERS))?
-        .arg(number(alloc, "piece", MOST_BYTES))
-}
-
-/// Makes the argument whose value is the text of the query.
-fn query<'a>(alloc: Global) -> Arg<'a>
-    ensures rule { rule_of result ≡ query_option }
-    ensures local { result.global ≡ false }
-{
-    Arg::new(alloc, "query").long("query").required(true)
-}
-
-/// Makes the subcommand `select`.
-fn select_line<'a>(alloc: Global) -> Result<Line<'a>, AllocError>
-    ensures app { IfOk result (λ line. app_of line ≡ with_options (codes "select") select_options) }
-    ensures local { IfOk result (λ line. (fields_of line).has_globals ≡ false) }
-{
-    reading_line(alloc, "select")?
-        .arg(query(alloc))?
-        .arg(number(alloc, "rows", MOST_ROWS))
-}
-
-/// Adds a subcommand with the arguments for how a document is read.
-///
-/// If an allocation fails, a call drops the line: the drop that `?` writes out is longer than this function.
-fn add_reading<'a>(alloc: Global, line: Line<'a>, name: &'a str) -> Result<Line<'a>, AllocError>
-    ensures app { IfOk result (λ with. app_of with
-        ≡ with_subcommand (app_of line.entry) (with_options name.entry.now reading_options).top) }
-{
-    match reading_line(alloc, name) {
-        Ok(reading) => line.subcommand(reading),
-        Err(failed) => {
-            drop(line);
-            Err(failed)
-        }
-    }
-}
-
-/// Makes the command line of the program.
-fn program_line<'a>(alloc: Global) -> Result<Line<'a>, AllocError>
-    ensures app { IfOk result (λ line. app_of line ≡ program) }
-{
-    let select = select_line(alloc)?;
-    let line = Line::new(alloc, "spq")
-        .subcommand_required(true)
-        .subcommand(select)?;
-    let line = add_reading(alloc, line, "check")?;
-    add_reading(alloc, line, "terms")
 }
 
 /// Returns the number of an argument, or its default if it is not given.

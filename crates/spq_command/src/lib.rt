@@ -12,8 +12,10 @@
 //!
 //! No standard defines the command line; it is a choice of this project.
 //!
-//! Reading order: `command` (commands), `command_line` (arguments); then `help`: `texts`, `program`
-//! (the command lines with their help), `messages`.
+//! Both read the arguments with the same value of the library (`program`).
+//!
+//! Reading order: `command` (commands), `texts` and `program` (the command lines with their help),
+//! `command_line` (the command of the arguments), `messages` (the text for them).
 //!
 //! Example: the arguments `spq`, `check`, `--workers`, `8` are a check with 8 workers, in blocks of
 //! 65,536 bytes. tests/examples/program_command_lines.toml has such examples, and
@@ -24,8 +26,11 @@
 
 mod command;
 mod command_line;
-mod help;
+mod messages;
+mod program;
+mod texts;
 
 pub use command::{Command, ReadOptions};
 pub use command_line::{CommandFault, read_command};
-pub use help::{VERSION, is_file_name, message};
+pub use messages::{is_file_name, message};
+pub use texts::VERSION;

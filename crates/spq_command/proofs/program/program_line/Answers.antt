@@ -3,7 +3,7 @@ use Rattle.std.proofs.lemmas.Result.{IfOk-weaker}
 use Rattle.clap.specs.Simple.{app_of_fields}
 use Rattle.clap.specs.Words.{App, app_of, new_app, shape_of, with_subcommand}
 use Rattle.spq_command.specs.Program.{reading_options, with_options}
-use Rattle.spq_command.proofs.command_line.program_line.Goals as goal
+use Rattle.spq_command.proofs.program.program_line.Goals as goal
 
 -- the command line requires one of its subcommands
 abbrev required : App → App

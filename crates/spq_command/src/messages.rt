@@ -3,9 +3,10 @@
 ghost use Rattle.std.specs.Prelude.{◌≡◌, ◌≢◌, ◌==◌, false, slice_index, true};
 ghost use Rattle.std.specs.List.{list_any};
 
-use crate::help::program::program;
-use clap::Error;
+use crate::program::program_line;
+use crate::texts::{ABOUT, AFTER, USAGE, VERSION};
 use clap::error::ErrorKind;
+use clap::{Command, Error};
 use std::alloc::{AllocError, Global};
 
 const HINT: &str = "hint: spq reads standard input: use spq check < ";
@@ -64,13 +65,21 @@ fn text_of(alloc: Global, error: &Error, words: &[String]) -> Result<String, All
     Ok(text)
 }
 
+/// Adds the texts of the help of the program itself, and its version.
+fn described<'a>(line: Command<'a>) -> Command<'a> {
+    line.version(VERSION)
+        .about(ABOUT)
+        .override_usage(USAGE)
+        .after_help(AFTER)
+}
+
 /// Returns the message for the arguments of a command line, with the program's name as the first of
 /// them: the error, or the help or version that they request. Returns None if they are a command.
 ///
 /// # Errors
 /// `AllocError` if an allocation fails.
 pub fn message(alloc: Global, words: &[String]) -> Result<Option<String>, AllocError> {
-    let line = program(alloc)?;
+    let line = described(program_line(alloc)?);
     match line.try_get_matches_from(words) {
         Ok(_) => Ok(None),
         Err(error) => match error.kind() {

@@ -2,7 +2,7 @@ use Rattle.std.proofs.Common.{◌≡◌, Bool, ◌||◌, ap, ◌∙◌, codes}
 use Rattle.std.proofs.lemmas.Result.{IfOk-weaker}
 use Rattle.clap.specs.Words.{App, Rule, app_of, rule_of, with_rule}
 use Rattle.spq_command.specs.Program.{query_option, reading_options, rows_option, with_options}
-use Rattle.spq_command.proofs.command_line.select_line.Goals as goal
+use Rattle.spq_command.proofs.program.select_line.Goals as goal
 
 pub returns : goal.returns
 returns c =
