@@ -1,7 +1,7 @@
 -- The trees below a tree have only variables that the tree may have.
-use Rattle.std.proofs.Common.{◌≡◌, ℕ, Bool, true, false, ◌&&◌, refl, ap, ◌∙◌, subst, Box, Vec, Global, nat_lt}
+use Rattle.std.proofs.Common.{◌≡◌, ℕ, ◌<◌, Bool, true, false, ◌&&◌, refl, ap, ◌∙◌, subst, Box, Vec, Global, nat_lt}
 use Rattle.std.specs.List.{list_all}
-use Rattle.std.proofs.lemmas.Bool.{false≢true}
+use Rattle.std.proofs.lemmas.Bool.{false≢true, ltb-true}
 use Rattle.algebra_model.specs.Algebra.{Algebra, is_name_below, is_within}
 use Rattle.expression_values.specs.declared.expression.Expr.{Expr}
 use Rattle.sparql_algebra.specs.AlgebraOf.{algebra_of, graph_name_of}
@@ -40,6 +40,9 @@ filter_within w e t tree is h = as_algebra w tree _ (ap algebra_of is ∙ filter
 
 pub extend_within : (w v : ℕ) (e : Expr) (t : Box Operator Global) (tree : Operator) → tree ≡ views.Extend v e t → IsIn w tree → IsIn w t.value
 extend_within w v e t tree is h = (both_true (nat_lt v w) (is_within w (algebra_of t.value)) (as_algebra w tree _ (ap algebra_of is ∙ extend_denotes v e t) h)).1
+
+pub extend_below : (w v : ℕ) (e : Expr) (t : Box Operator Global) (tree : Operator) → tree ≡ views.Extend v e t → IsIn w tree → v < w
+extend_below w v e t tree is h = ltb-true v w (both_true (nat_lt v w) (is_within w (algebra_of t.value)) (as_algebra w tree _ (ap algebra_of is ∙ extend_denotes v e t) h)).0
 
 pub project_within : (w : ℕ) (vs : Vec ℕ Global) (t : Box Operator Global) (tree : Operator) → tree ≡ views.Project vs t → IsIn w tree → IsIn w t.value
 project_within w vs t tree is h = (both_true (list_all (λ v. nat_lt v w) vs.items) (is_within w (algebra_of t.value)) (as_algebra w tree _ (ap algebra_of is ∙ project_denotes vs t) h)).1

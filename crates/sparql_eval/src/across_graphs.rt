@@ -17,7 +17,6 @@ ghost use Rattle.sparql_eval.specs.TreeSolutions.{AreGraphs, IsEvaluatedIn, Take
 use crate::closed::{is_apart, is_closed};
 use crate::equalities::{Equality, with_equalities};
 use crate::evaluator::Evaluator;
-use crate::extensions::extend_with;
 use crate::filters::filter_with;
 use crate::fitted_joins::join_where;
 use crate::forms::is_partly_closed;
@@ -309,15 +308,6 @@ impl<'c, 'i, 'e, R: Threads + Wait, G: Gate + Sync> Evaluator<'c, 'i, 'e, R, G> 
         ensures one_worker { HasOneWorker self.now.context.how.now → IfErr result (λ fault. fault ≡ Memory) }
     {
         let (rows, dict) = self.solve_each(dict, variable, graphs, inner)?;
-        let place = self.place(Owner::Extend(bound), expression);
-        extend_with(
-            &self.context,
-            self.state,
-            dict,
-            &rows,
-            bound,
-            expression,
-            place,
-        )
+        self.extend(dict, rows, bound, expression)
     }
 }

@@ -3,24 +3,20 @@
 //! The methods of [`Evaluator`] are in several modules: `two_inputs` has the operators with two inputs,
 //! `filtered_trees` Filter, `named_graphs` and `across_graphs` GRAPH, and `trees_to_join` what a join needs
 //! of a tree.
-ghost use Rattle.std.specs.Prelude.{◌≡◌, ◌<◌, true, length, map, option_map, IfErr, IfOk};
-ghost use Rattle.std.specs.List.{list_all};
+ghost use Rattle.std.specs.Prelude.{◌≡◌, ◌<◌, true, length, option_map, IfErr, IfOk};
 ghost use Rattle.std.specs.Option.{ForSome};
-ghost use Rattle.rdf_core.specs.Equality.{term_eq};
-ghost use Rattle.algebra_model.specs.Algebra.{Distinct, Extend, Project, is_triple_below, is_within};
-ghost use Rattle.algebra_model.specs.Bgp.{bgp};
-ghost use Rattle.algebra_model.specs.Dataset.{graph};
+ghost use Rattle.algebra_model.specs.Algebra.{is_within};
 ghost use Rattle.algebra_model.specs.Expression.{val};
-ghost use Rattle.algebra_model.specs.Operators.{distinct, extend, project};
+ghost use Rattle.algebra_model.specs.Operators.{extend};
 ghost use Rattle.dict_core.specs.Dict.{term_at};
 ghost use Rattle.dict_core.specs.NumQuad.{AreBelow, quads_at};
 ghost use Rattle.row_pieces.specs.How.{HasOneWorker};
 ghost use Rattle.row_pieces.specs.declared.fault.EvalFault.TheVariants.{Memory};
 ghost use Rattle.expression_values.specs.ExpressionOf.{expression_of};
-ghost use Rattle.sparql_algebra.specs.AlgebraOf.{algebra_of, triple_pattern_of};
-ghost use Rattle.sparql_eval.specs.Computed.{IsComputed, TakesOnly};
-ghost use Rattle.sparql_eval.specs.Evaluated.{IsEvaluated};
-ghost use Rattle.sparql_eval.specs.TreeSolutions.{Needed, tree_solutions};
+ghost use Rattle.sparql_algebra.specs.AlgebraOf.{algebra_of};
+ghost use Rattle.sparql_eval.specs.Computed.{IsComputed, IsValue, TakesOnly};
+ghost use Rattle.sparql_eval.specs.Evaluated.{AreKnown, IsEvaluated, solutions_of};
+ghost use Rattle.sparql_eval.specs.TreeSolutions.{tree_solutions};
 
 use crate::distinctness::distinct;
 use crate::extensions::extend_with;
@@ -33,7 +29,7 @@ use piece_pool::Gate;
 use quad_index::Index;
 use row_core::Rows;
 use row_pieces::{Context, EvalFault};
-use sparql_algebra::{Expr, Operator, TriplePattern};
+use sparql_algebra::{Expr, Operator};
 use std::hash::RandomState;
 use std::sync::Wait;
 use std::thread::Threads;
@@ -64,6 +60,34 @@ impl<'c, 'i, 'e, R: Threads + Wait, G: Gate + Sync> Evaluator<'c, 'i, 'e, R, G> 
         self.index.quads() as usize
     }
 
+    /// Applies Extend to rows. Rows over which the expression is an error are counted.
+    pub(crate) fn extend(
+        &self,
+        dict: Dict,
+        rows: Rows,
+        variable: usize,
+        expression: &Expr,
+    ) -> Result<(Rows, Dict), EvalFault>
+        requires known { AreKnown dict rows }
+        requires variable { variable < rows.width }
+        ensures evaluated { IfOk result (λ r. IsEvaluated dict rows.width
+            (extend variable (val (expression_of expression.now)) (solutions_of dict rows)) r.0 r.1) }
+        ensures needed { IfOk result (λ r. TakesOnly
+            (IsValue (val (expression_of expression.now)) (solutions_of dict rows)) dict r.1) }
+        ensures one_worker { HasOneWorker self.now.context.how.now → IfErr result (λ fault. fault ≡ Memory) }
+    {
+        let place = self.place(Owner::Extend(variable), expression);
+        extend_with(
+            &self.context,
+            self.state,
+            dict,
+            &rows,
+            variable,
+            expression,
+            place,
+        )
+    }
+
     /// Evaluates a tree with the graph of this number active, or the default graph if it is None.
     /// Only the terms of VALUES and the values of Extend are added to the dictionary.
     #[cycle(solve)]
@@ -85,7 +109,15 @@ impl<'c, 'i, 'e, R: Threads + Wait, G: Gate + Sync> Evaluator<'c, 'i, 'e, R, G> 
     {
         match tree {
             Operator::Pattern { labels, triples } => {
-                self.pattern(dict, active, *labels, triples.as_slice())
+                pattern_with(
+                    &self.context,
+                    dict,
+                    self.index,
+                    active,
+                    self.width,
+                    *labels,
+                    triples.as_slice(),
+                )
             }
             Operator::Join { left, right } => {
                 let (left, dict) = self.solve(dict, active, left)?;
@@ -109,17 +141,24 @@ impl<'c, 'i, 'e, R: Threads + Wait, G: Gate + Sync> Evaluator<'c, 'i, 'e, R, G> 
             }
             Operator::Graph { name, inner } => self.solve_graph(dict, name, inner),
             Operator::Filter { condition, inner } => {
-                self.solve_filter(dict, active, inner, condition)
+                self.solve_filter_where(dict, active, inner, condition, &[], None)
             }
             Operator::Extend {
                 variable,
                 expression,
                 inner,
-            } => self.solve_extend(dict, active, inner, *variable, expression),
-            Operator::Project { variables, inner } => {
-                self.solve_project(dict, active, inner, variables.as_slice())
+            } => {
+                let (rows, dict) = self.solve(dict, active, inner)?;
+                self.extend(dict, rows, *variable, expression)
             }
-            Operator::Distinct { inner } => self.solve_distinct(dict, active, inner),
+            Operator::Project { variables, inner } => {
+                let (rows, dict) = self.solve(dict, active, inner)?;
+                project_of(self.context.alloc, dict, rows, variables.as_slice())
+            }
+            Operator::Distinct { inner } => {
+                let (rows, dict) = self.solve(dict, active, inner)?;
+                distinct(self.context.alloc, self.state, dict, &rows)
+            }
             Operator::Table { variables, rows } => {
                 let variables = variables.as_slice();
                 table(
@@ -131,114 +170,5 @@ impl<'c, 'i, 'e, R: Threads + Wait, G: Gate + Sync> Evaluator<'c, 'i, 'e, R, G> 
                 )
             }
         }
-    }
-
-    /// Returns the solutions of a basic graph pattern over the active graph.
-    fn pattern(
-        &self,
-        dict: Dict,
-        active: Option<u64>,
-        labels: usize,
-        triples: &[TriplePattern],
-    ) -> Result<(Rows, Dict), EvalFault>
-        requires index { AreBelow (length dict) self.now.index.now }
-        requires active { ForSome active (λ g. g < length dict) }
-        requires below { list_all (is_triple_below self.now.width labels)
-            (map triple_pattern_of triples.now) ≡ true }
-        ensures evaluated { IfOk result (λ r. IsEvaluated dict self.now.width
-            (bgp term_eq self.now.width labels (map triple_pattern_of triples.now)
-            (graph (quads_at dict self.now.index.now) (option_map (term_at dict) active)))
-            r.0 r.1) }
-        ensures same_dict { IfOk result (λ r. r.1 ≡ dict) }
-        ensures one_worker { HasOneWorker self.now.context.how.now → IfErr result (λ fault. fault ≡ Memory) }
-    {
-        pattern_with(
-            &self.context,
-            dict,
-            self.index,
-            active,
-            self.width,
-            labels,
-            triples,
-        )
-    }
-
-    /// Evaluates an Extend and its input.
-    #[cycle(solve)]
-    fn solve_extend(
-        &self,
-        dict: Dict,
-        active: Option<u64>,
-        inner: &Operator,
-        variable: usize,
-        expression: &Expr,
-    ) -> Result<(Rows, Dict), EvalFault>
-        requires index { AreBelow (length dict) self.now.index.now }
-        requires active { ForSome active (λ g. g < length dict) }
-        requires variable { variable < self.now.width }
-        requires within { is_within self.now.width (algebra_of inner.now) ≡ true }
-        ensures evaluated { IfOk result (λ r. IsEvaluated dict self.now.width
-            (extend variable (val (expression_of expression.now))
-            (tree_solutions dict self.now.index.now self.now.width active inner.now)) r.0 r.1) }
-        ensures needed { IfOk result (λ r. TakesOnly (Needed dict self.now.index.now self.now.width active
-            (Extend variable (expression_of expression.now) (algebra_of inner.now))) dict r.1) }
-        ensures one_worker { HasOneWorker self.now.context.how.now → IfErr result (λ fault. fault ≡ Memory) }
-    {
-        let (rows, dict) = self.solve(dict, active, inner)?;
-        let place = self.place(Owner::Extend(variable), expression);
-        extend_with(
-            &self.context,
-            self.state,
-            dict,
-            &rows,
-            variable,
-            expression,
-            place,
-        )
-    }
-
-    /// Evaluates a Project and its input.
-    #[cycle(solve)]
-    fn solve_project(
-        &self,
-        dict: Dict,
-        active: Option<u64>,
-        inner: &Operator,
-        variables: &[usize],
-    ) -> Result<(Rows, Dict), EvalFault>
-        requires index { AreBelow (length dict) self.now.index.now }
-        requires active { ForSome active (λ g. g < length dict) }
-        requires within { is_within self.now.width (algebra_of inner.now) ≡ true }
-        ensures evaluated { IfOk result (λ r. IsEvaluated dict self.now.width
-            (project variables.now
-            (tree_solutions dict self.now.index.now self.now.width active inner.now)) r.0 r.1) }
-        ensures needed { IfOk result (λ r. TakesOnly (Needed dict self.now.index.now self.now.width active
-            (Project variables.now (algebra_of inner.now))) dict r.1) }
-        ensures one_worker { HasOneWorker self.now.context.how.now → IfErr result (λ fault. fault ≡ Memory) }
-    {
-        let (rows, dict) = self.solve(dict, active, inner)?;
-        project_of(self.context.alloc, dict, rows, variables)
-    }
-
-    /// Evaluates a Distinct and its input.
-    #[cycle(solve)]
-    fn solve_distinct(
-        &self,
-        dict: Dict,
-        active: Option<u64>,
-        inner: &Operator,
-    ) -> Result<(Rows, Dict), EvalFault>
-        requires index { AreBelow (length dict) self.now.index.now }
-        requires active { ForSome active (λ g. g < length dict) }
-        requires within { is_within self.now.width (algebra_of inner.now) ≡ true }
-        ensures evaluated { IfOk result (λ r. IsEvaluated dict self.now.width
-            (distinct term_eq
-            (tree_solutions dict self.now.index.now self.now.width active inner.now)) r.0 r.1) }
-        ensures needed { IfOk result (λ r. TakesOnly (Needed dict self.now.index.now self.now.width active
-            (Distinct (algebra_of inner.now))) dict r.1) }
-        ensures one_worker { HasOneWorker self.now.context.how.now → IfErr result (λ fault. fault ≡ Memory) }
-    {
-        let (rows, dict) = self.solve(dict, active, inner)?;
-        distinct(self.context.alloc, self.state, dict, &rows)
     }
 }

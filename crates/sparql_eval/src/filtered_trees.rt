@@ -3,7 +3,7 @@
 ghost use Rattle.std.specs.Prelude.{◌≡◌, ◌<◌, true, filter, length, IfErr, IfOk};
 ghost use Rattle.std.specs.Option.{ForSome};
 ghost use Rattle.rdf_core.specs.Equality.{term_eq};
-ghost use Rattle.algebra_model.specs.Algebra.{Filter, is_within};
+ghost use Rattle.algebra_model.specs.Algebra.{is_within};
 ghost use Rattle.algebra_model.specs.Expression.{holds};
 ghost use Rattle.algebra_model.specs.Operators.{join};
 ghost use Rattle.dict_core.specs.NumQuad.{AreBelow};
@@ -12,7 +12,7 @@ ghost use Rattle.row_pieces.specs.declared.fault.EvalFault.TheVariants.{Memory};
 ghost use Rattle.expression_values.specs.ExpressionOf.{expression_of};
 ghost use Rattle.sparql_algebra.specs.AlgebraOf.{algebra_of};
 ghost use Rattle.sparql_eval.specs.Computed.{TakesOnly};
-ghost use Rattle.sparql_eval.specs.Evaluated.{AreKnown, IsEvaluated, solutions_of};
+ghost use Rattle.sparql_eval.specs.Evaluated.{AreKnown, solutions_of};
 ghost use Rattle.sparql_eval.specs.Fitting.{IsEvaluatedWhere, fits};
 ghost use Rattle.sparql_eval.specs.Possible.{may_join};
 ghost use Rattle.sparql_eval.specs.TreeSolutions.{Needed, tree_solutions};
@@ -32,32 +32,10 @@ use std::sync::Wait;
 use std::thread::Threads;
 
 impl<'c, 'i, 'e, R: Threads + Wait, G: Gate + Sync> Evaluator<'c, 'i, 'e, R, G> {
-    /// Evaluates a Filter and its input.
+    /// Evaluates a Filter and its input. Only the solutions that fit are needed, which are all if there are no
+    /// pairs. The filter around it, if there is one, is tested on these solutions later.
     #[cycle(solve)]
-    pub(crate) fn solve_filter(
-        &self,
-        dict: Dict,
-        active: Option<u64>,
-        inner: &Operator,
-        condition: &Expr,
-    ) -> Result<(Rows, Dict), EvalFault>
-        requires index { AreBelow (length dict) self.now.index.now }
-        requires active { ForSome active (λ g. g < length dict) }
-        requires within { is_within self.now.width (algebra_of inner.now) ≡ true }
-        ensures evaluated { IfOk result (λ r. IsEvaluated dict self.now.width
-            (filter (holds (expression_of condition.now))
-            (tree_solutions dict self.now.index.now self.now.width active inner.now)) r.0 r.1) }
-        ensures needed { IfOk result (λ r. TakesOnly (Needed dict self.now.index.now self.now.width active
-            (Filter (expression_of condition.now) (algebra_of inner.now))) dict r.1) }
-        ensures one_worker { HasOneWorker self.now.context.how.now → IfErr result (λ fault. fault ≡ Memory) }
-    {
-        self.solve_filter_where(dict, active, inner, condition, &[], None)
-    }
-
-    /// Evaluates a Filter of which only the solutions that fit are needed, and its input. The filter around
-    /// it, if there is one, is tested on these solutions later.
-    #[cycle(solve)]
-    fn solve_filter_where(
+    pub(crate) fn solve_filter_where(
         &self,
         dict: Dict,
         active: Option<u64>,

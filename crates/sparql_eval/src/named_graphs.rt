@@ -1,7 +1,7 @@
 //! GRAPH: a tree in one named graph, or in each of some. What does not depend on the active graph is evaluated
 //! once.
 ghost use Rattle.std.specs.Prelude.{◌≡◌, ◌<◌, true, length, IfErr, IfOk};
-ghost use Rattle.algebra_model.specs.Algebra.{each_graph, is_name_below, is_within};
+ghost use Rattle.algebra_model.specs.Algebra.{is_name_below, is_within};
 ghost use Rattle.algebra_model.specs.Closed.{is_closed};
 ghost use Rattle.dict_core.specs.NumQuad.{AreBelow, quads_at};
 ghost use Rattle.row_pieces.specs.How.{HasOneWorker};
@@ -45,36 +45,15 @@ impl<'c, 'i, 'e, R: Threads + Wait, G: Gate + Sync> Evaluator<'c, 'i, 'e, R, G> 
         ensures one_worker { HasOneWorker self.now.context.how.now → IfErr result (λ fault. fault ≡ Memory) }
     {
         match name {
-            GraphName::Variable(variable) => self.solve_all(dict, *variable, inner),
+            GraphName::Variable(variable) => {
+                let _distinct = dict.len();
+                self.solve_each(dict, *variable, self.index.graphs(), inner)
+            }
             GraphName::Iri(term) => match graph_number(&dict, self.index, term) {
                 Some(number) => self.solve(dict, Some(number), inner),
                 None => Ok((Rows::new(self.context.alloc, self.width), dict)),
             },
         }
-    }
-
-    /// Evaluates a tree in each named graph, and joins the rows of a graph with the variable bound
-    /// to its name. Only the terms that the tree computes in these graphs are added to the
-    /// dictionary.
-    #[cycle(solve)]
-    fn solve_all(
-        &self,
-        dict: Dict,
-        variable: usize,
-        inner: &Operator,
-    ) -> Result<(Rows, Dict), EvalFault>
-        requires index { AreBelow (length dict) self.now.index.now }
-        requires variable { variable < self.now.width }
-        requires within { is_within self.now.width (algebra_of inner.now) ≡ true }
-        ensures evaluated { IfOk result (λ r. IsEvaluated dict self.now.width
-            (graph_solutions dict self.now.index.now self.now.width (each_graph variable)
-            inner.now) r.0 r.1) }
-        ensures needed { IfOk result (λ r. TakesIn dict self.now.index.now
-            self.now.width variable (algebra_of inner.now) r.1) }
-        ensures one_worker { HasOneWorker self.now.context.how.now → IfErr result (λ fault. fault ≡ Memory) }
-    {
-        let _distinct = dict.len();
-        self.solve_each(dict, variable, self.index.graphs(), inner)
     }
 
     /// Evaluates a tree in each of some graphs, and joins the rows of a graph with the variable
@@ -102,7 +81,8 @@ impl<'c, 'i, 'e, R: Threads + Wait, G: Gate + Sync> Evaluator<'c, 'i, 'e, R, G> 
             return Ok((Rows::new(self.context.alloc, self.width), dict));
         }
         if is_closed(inner) {
-            return self.solve_once(dict, variable, graphs, inner);
+            let names = name_rows(self.context.alloc, self.width, variable, graphs)?;
+            return self.solve_join(dict, None, names, inner);
         }
         if let Operator::Join { left, right } = inner {
             if is_closed(right) {
@@ -115,32 +95,6 @@ impl<'c, 'i, 'e, R: Threads + Wait, G: Gate + Sync> Evaluator<'c, 'i, 'e, R, G> 
             }
         }
         self.solve_outward(dict, variable, graphs, inner)
-    }
-
-    /// Evaluates a tree that does not depend on the active graph, and joins its rows with the
-    /// variable bound to the name of each of the graphs.
-    #[cycle(solve)]
-    fn solve_once(
-        &self,
-        dict: Dict,
-        variable: usize,
-        graphs: &[u64],
-        inner: &Operator,
-    ) -> Result<(Rows, Dict), EvalFault>
-        requires index { AreBelow (length dict) self.now.index.now }
-        requires variable { variable < self.now.width }
-        requires graphs { AreGraphs dict self.now.index.now graphs.now }
-        requires some { 0 < length graphs.now }
-        requires closed { is_closed (algebra_of inner.now) ≡ true }
-        requires within { is_within self.now.width (algebra_of inner.now) ≡ true }
-        ensures evaluated { IfOk result (λ r. IsEvaluatedIn dict self.now.index.now
-            self.now.width variable graphs.now (algebra_of inner.now) r.0 r.1) }
-        ensures needed { IfOk result (λ r. TakesIn dict self.now.index.now
-            self.now.width variable (algebra_of inner.now) r.1) }
-        ensures one_worker { HasOneWorker self.now.context.how.now → IfErr result (λ fault. fault ≡ Memory) }
-    {
-        let names = name_rows(self.context.alloc, self.width, variable, graphs)?;
-        self.solve_join(dict, None, names, inner)
     }
 
     /// Evaluates a tree in one graph after another, and joins the rows of a graph with the variable

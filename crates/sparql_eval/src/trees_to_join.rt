@@ -2,7 +2,7 @@
 ghost use Rattle.std.specs.Prelude.{◌≡◌, ◌<◌, [], true, length, IfErr, IfOk};
 ghost use Rattle.std.specs.Option.{ForSome};
 ghost use Rattle.rdf_core.specs.Equality.{term_eq};
-ghost use Rattle.algebra_model.specs.Algebra.{each_graph, is_name_below, is_within};
+ghost use Rattle.algebra_model.specs.Algebra.{is_name_below, is_within};
 ghost use Rattle.algebra_model.specs.Operators.{join};
 ghost use Rattle.dict_core.specs.NumQuad.{AreBelow};
 ghost use Rattle.row_pieces.specs.How.{HasOneWorker};
@@ -11,8 +11,8 @@ ghost use Rattle.sparql_algebra.specs.AlgebraOf.{algebra_of, graph_name_of};
 ghost use Rattle.sparql_eval.specs.Computed.{TakesOnly};
 ghost use Rattle.sparql_eval.specs.Evaluated.{AreKnown, solutions_of};
 ghost use Rattle.sparql_eval.specs.Fitting.{IsEvaluatedWhere};
-ghost use Rattle.sparql_eval.specs.Possible.{ArePossibleIn, may_join, meets_some};
-ghost use Rattle.sparql_eval.specs.TreeSolutions.{Needed, NeededIn, TakesIn, graph_solutions, tree_solutions};
+ghost use Rattle.sparql_eval.specs.Possible.{may_join, meets_some};
+ghost use Rattle.sparql_eval.specs.TreeSolutions.{Needed, NeededIn, graph_solutions, tree_solutions};
 
 use crate::evaluator::Evaluator;
 use crate::forms::is_empty_pattern;
@@ -118,37 +118,10 @@ impl<'c, 'i, 'e, R: Threads + Wait, G: Gate + Sync> Evaluator<'c, 'i, 'e, R, G> 
             let graphs = self.index.graphs();
             let found = possible_graphs(self.context.alloc, others, *variable, graphs)?;
             if let Some(found) = found {
-                return self.solve_found(dict, others, *variable, found, inner);
+                let _distinct = dict.len();
+                return self.solve_each(dict, *variable, found.as_slice(), inner);
             }
         }
         self.solve_graph(dict, name, inner)
-    }
-
-    /// Evaluates a tree in the graphs that the rows name, and joins the rows of a graph with the
-    /// variable bound to its name.
-    #[cycle(solve)]
-    fn solve_found(
-        &self,
-        dict: Dict,
-        others: &Rows,
-        variable: usize,
-        found: Vec<u64>,
-        inner: &Operator,
-    ) -> Result<(Rows, Dict), EvalFault>
-        requires index { AreBelow (length dict) self.now.index.now }
-        requires variable { variable < self.now.width }
-        requires known_others { AreKnown dict others.now }
-        requires found { ArePossibleIn self.now.index.now others.now.rows variable found.items }
-        requires within { is_within self.now.width (algebra_of inner.now) ≡ true }
-        ensures evaluated { IfOk result (λ r. IsEvaluatedWhere dict self.now.width
-            (meets_some term_eq (solutions_of dict others.now))
-            (graph_solutions dict self.now.index.now self.now.width (each_graph variable)
-            inner.now) r.0 r.1) }
-        ensures needed { IfOk result (λ r. TakesIn dict self.now.index.now
-            self.now.width variable (algebra_of inner.now) r.1) }
-        ensures one_worker { HasOneWorker self.now.context.how.now → IfErr result (λ fault. fault ≡ Memory) }
-    {
-        let _distinct = dict.len();
-        self.solve_each(dict, variable, found.as_slice(), inner)
     }
 }

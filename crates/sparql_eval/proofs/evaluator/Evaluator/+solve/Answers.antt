@@ -1,12 +1,13 @@
 use Rattle.std.proofs.Common.{◌≡◌, ℕ, ◌<◌, Bool, false, not, ◌&&◌, List, [], ◌∷◌, ◌++◌, true, length, map, filter, flat_map, get_or, slice_get, nat_eq, nat_lt, replicate, set, None, Some, IfOk, refl, sym, ap, subst, ◌∙◌, arith}
 use Rattle.std.specs.List.{list_all}
+use Rattle.std.proofs.lemmas.Bool.{ltb-true}
 use Rattle.std.proofs.lemmas.List.Sorted.{IsPermutation-refl}
 use Rattle.std.proofs.lemmas.Option.{slice_get-get_or}
 use Rattle.std.proofs.lemmas.Result.{IfOk-weaker}
 use Rattle.rdf_core.specs.declared.term.Term.{Term}
 use Rattle.rdf_core.proofs.TermLaws.{term_eq}
 use Rattle.algebra_model.specs.Algebra as algebra
-use Rattle.algebra_model.specs.Algebra.{Algebra, each_graph, is_within}
+use Rattle.algebra_model.specs.Algebra.{Algebra, each_graph, is_name_below, is_within}
 use Rattle.algebra_model.specs.Bag.{IsSameBag}
 use Rattle.algebra_model.specs.Closed.{is_closed}
 use Rattle.algebra_model.specs.Eval.{eval, named}
@@ -38,7 +39,7 @@ use Rattle.sparql_eval.proofs.EvaluateSteps.{active_kept, after_left, after_one,
 use Rattle.sparql_eval.proofs.TreeSteps.{distinct_denotes, distinct_tree, extend_denotes, extend_tree, filter_denotes, filter_tree, graph_denotes, graph_tree, join_denotes, join_tree, left_join_denotes, left_join_tree, minus_denotes, minus_tree, project_denotes, project_tree, table_denotes, table_tree, union_denotes, union_tree}
 use Rattle.sparql_eval.proofs.ComputedSteps.{all_graphs, takes_as, takes_both, takes_in_each, takes_nothing, takes_still, takes_values}
 use Rattle.sparql_eval.proofs.TakingLaws.{takes_none}
-use Rattle.sparql_eval.proofs.WithinSteps.{distinct_within, extend_within, filter_within, graph_within, join_within, left_join_within, minus_within, project_within, union_within}
+use Rattle.sparql_eval.proofs.WithinSteps.{distinct_within, extend_below, extend_within, filter_within, graph_within, join_within, left_join_within, minus_within, project_within, union_within}
 use Rattle.sparql_eval.proofs.evaluator.Evaluator.+solve.Goals as goal
 
 -- ---- Pattern
@@ -46,7 +47,7 @@ use Rattle.sparql_eval.proofs.evaluator.Evaluator.+solve.Goals as goal
 pub solve-returns-in-Pattern-clause-needed : goal.solve-returns-in-Pattern-clause-needed
 solve-returns-in-Pattern-clause-needed g t c =
     let s = c.args.self.now in
-    takes_nothing (Needed c.args.dict s.index.now s.width c.args.active (algebra_of c.args.tree.now)) c.args.dict c.pattern.result c.pattern.ensures.same_dict
+    takes_nothing (Needed c.args.dict s.index.now s.width c.args.active (algebra_of c.args.tree.now)) c.args.dict c.pattern_with.result c.pattern_with.ensures.same_dict
 
 -- ---- Join
 
@@ -166,67 +167,70 @@ pub solve-returns-in-Filter-clause-evaluated : goal.solve-returns-in-Filter-clau
 solve-returns-in-Filter-clause-evaluated g t c =
     let s = c.args.self.now in
     let S : Operator → List (Solution Term) = λ tree. tree_solutions c.args.dict s.index.now s.width c.args.active tree in
-    as_whole c.args.dict s.width c.solve_filter.result (filter (holds (expression_of c.in-Filter.condition)) (S c.deref-in-Filter.result.now)) (S c.args.tree.now)
+    let A = filter (holds (expression_of c.in-Filter.condition)) (S c.deref-in-Filter.result.now) in
+    as_whole c.args.dict s.width c.solve_filter_where.result A (S c.args.tree.now)
     (ap S c.in-Filter.is ∙ filter_tree c.args.dict s.index.now s.width c.args.active c.in-Filter.condition c.in-Filter.inner ∙ (λ i. filter (holds (expression_of c.in-Filter.condition)) (S ((sym c.deref-in-Filter.ensures) i))))
-    c.solve_filter.ensures.evaluated
+    (IfOk-weaker c.solve_filter_where.result (λ x. IsEvaluatedWhere c.args.dict s.width (fits []) A x.0 x.1) (λ x. IsEvaluated c.args.dict s.width A x.0 x.1)
+    (λ x h. where_all c.args.dict s.width A x.0 x.1 h) c.solve_filter_where.ensures.evaluated)
 
 pub solve-returns-in-Filter-clause-needed : goal.solve-returns-in-Filter-clause-needed
 solve-returns-in-Filter-clause-needed g t c =
     let s = c.args.self.now in
-    takes_as c.args.dict s.index.now s.width c.args.active c.solve_filter.result (algebra_of c.args.tree.now) (algebra.Filter (expression_of c.in-Filter.condition) (algebra_of c.deref-in-Filter.result.now))
+    takes_as c.args.dict s.index.now s.width c.args.active c.solve_filter_where.result (algebra_of c.args.tree.now) (algebra.Filter (expression_of c.in-Filter.condition) (algebra_of c.deref-in-Filter.result.now))
     (ap algebra_of c.in-Filter.is ∙ filter_denotes c.in-Filter.condition c.in-Filter.inner ∙ (λ i. algebra.Filter (expression_of c.in-Filter.condition) (algebra_of ((sym c.deref-in-Filter.ensures) i))))
-    c.solve_filter.ensures.needed
+    c.solve_filter_where.ensures.needed
 
 -- ---- Extend
 
-pub solve-returns-in-Extend-clause-evaluated : goal.solve-returns-in-Extend-clause-evaluated
-solve-returns-in-Extend-clause-evaluated g t c =
+pub solve-returns-in_ok-rows-in-Extend-clause-evaluated : goal.solve-returns-in_ok-rows-in-Extend-clause-evaluated
+solve-returns-in_ok-rows-in-Extend-clause-evaluated g t c =
     let s = c.args.self.now in
     let S : Operator → List (Solution Term) = λ tree. tree_solutions c.args.dict s.index.now s.width c.args.active tree in
-    as_whole c.args.dict s.width c.solve_extend.result (extend c.in-Extend.variable (val (expression_of c.in-Extend.expression)) (S c.deref-in-Extend.result.now)) (S c.args.tree.now)
+    as_whole c.args.dict s.width c.extend.result (extend c.in-Extend.variable (val (expression_of c.in-Extend.expression)) (S c.deref-in-Extend.result.now)) (S c.args.tree.now)
     (ap S c.in-Extend.is ∙ extend_tree c.args.dict s.index.now s.width c.args.active c.in-Extend.variable c.in-Extend.expression c.in-Extend.inner ∙ (λ i. extend c.in-Extend.variable (val (expression_of c.in-Extend.expression)) (S ((sym c.deref-in-Extend.ensures) i))))
-    c.solve_extend.ensures.evaluated
+    (after_one c.args.dict c.in_ok-rows-in-Extend.dict s.width c.extend.result (extend c.in-Extend.variable (val (expression_of c.in-Extend.expression))) (extend_keeps c.in-Extend.variable (val (expression_of c.in-Extend.expression))) (S c.deref-in-Extend.result.now) c.in_ok-rows-in-Extend.rows c.in_ok-rows-in-Extend.ensures.evaluated c.extend.ensures.evaluated)
 
-pub solve-returns-in-Extend-clause-needed : goal.solve-returns-in-Extend-clause-needed
-solve-returns-in-Extend-clause-needed g t c =
+pub solve-returns-in_ok-rows-in-Extend-clause-needed : goal.solve-returns-in_ok-rows-in-Extend-clause-needed
+solve-returns-in_ok-rows-in-Extend-clause-needed g t c =
     let s = c.args.self.now in
-    takes_as c.args.dict s.index.now s.width c.args.active c.solve_extend.result (algebra_of c.args.tree.now) (algebra.Extend c.in-Extend.variable (expression_of c.in-Extend.expression) (algebra_of c.deref-in-Extend.result.now))
+    takes_as c.args.dict s.index.now s.width c.args.active c.extend.result (algebra_of c.args.tree.now) (algebra.Extend c.in-Extend.variable (expression_of c.in-Extend.expression) (algebra_of c.deref-in-Extend.result.now))
     (ap algebra_of c.in-Extend.is ∙ extend_denotes c.in-Extend.variable c.in-Extend.expression c.in-Extend.inner ∙ (λ i. algebra.Extend c.in-Extend.variable (expression_of c.in-Extend.expression) (algebra_of ((sym c.deref-in-Extend.ensures) i))))
-    c.solve_extend.ensures.needed
+    (takes_values c.args.dict s.index.now s.width c.args.active c.extend.result c.in-Extend.variable (expression_of c.in-Extend.expression) (algebra_of c.deref-in-Extend.result.now)
+    c.in_ok-rows-in-Extend.dict c.in_ok-rows-in-Extend.rows c.in_ok-rows-in-Extend.ensures.evaluated c.in_ok-rows-in-Extend.ensures.needed c.extend.ensures.needed)
 
 -- ---- Project
 
-pub solve-returns-in-Project-clause-evaluated : goal.solve-returns-in-Project-clause-evaluated
-solve-returns-in-Project-clause-evaluated g t c =
+pub solve-returns-in_ok-rows-in-Project-clause-evaluated : goal.solve-returns-in_ok-rows-in-Project-clause-evaluated
+solve-returns-in_ok-rows-in-Project-clause-evaluated g t c =
     let s = c.args.self.now in
     let S : Operator → List (Solution Term) = λ tree. tree_solutions c.args.dict s.index.now s.width c.args.active tree in
-    as_whole c.args.dict s.width c.solve_project.result (project c.as_slice-in-Project.result.now (S c.deref-in-Project.result.now)) (S c.args.tree.now)
+    as_whole c.args.dict s.width c.project_of.result (project c.as_slice-in-Project.result.now (S c.deref-in-Project.result.now)) (S c.args.tree.now)
     (ap S c.in-Project.is ∙ project_tree c.args.dict s.index.now s.width c.args.active c.in-Project.variables c.in-Project.inner ∙ (λ i. project ((sym c.as_slice-in-Project.ensures.value) i) (S ((sym c.deref-in-Project.ensures) i))))
-    c.solve_project.ensures.evaluated
+    (after_one c.args.dict c.in_ok-rows-in-Project.dict s.width c.project_of.result (project c.as_slice-in-Project.result.now) (project_keeps c.as_slice-in-Project.result.now) (S c.deref-in-Project.result.now) c.in_ok-rows-in-Project.rows c.in_ok-rows-in-Project.ensures.evaluated c.project_of.ensures.evaluated)
 
-pub solve-returns-in-Project-clause-needed : goal.solve-returns-in-Project-clause-needed
-solve-returns-in-Project-clause-needed g t c =
+pub solve-returns-in_ok-rows-in-Project-clause-needed : goal.solve-returns-in_ok-rows-in-Project-clause-needed
+solve-returns-in_ok-rows-in-Project-clause-needed g t c =
     let s = c.args.self.now in
-    takes_as c.args.dict s.index.now s.width c.args.active c.solve_project.result (algebra_of c.args.tree.now) (algebra.Project c.as_slice-in-Project.result.now (algebra_of c.deref-in-Project.result.now))
+    takes_as c.args.dict s.index.now s.width c.args.active c.project_of.result (algebra_of c.args.tree.now) (algebra.Project c.as_slice-in-Project.result.now (algebra_of c.deref-in-Project.result.now))
     (ap algebra_of c.in-Project.is ∙ project_denotes c.in-Project.variables c.in-Project.inner ∙ (λ i. algebra.Project ((sym c.as_slice-in-Project.ensures.value) i) (algebra_of ((sym c.deref-in-Project.ensures) i))))
-    c.solve_project.ensures.needed
+    (takes_still (Needed c.args.dict s.index.now s.width c.args.active (algebra_of c.deref-in-Project.result.now)) c.args.dict c.in_ok-rows-in-Project.dict c.project_of.result c.in_ok-rows-in-Project.ensures.needed c.project_of.ensures.same_dict)
 
 -- ---- Distinct
 
-pub solve-returns-in-Distinct-clause-evaluated : goal.solve-returns-in-Distinct-clause-evaluated
-solve-returns-in-Distinct-clause-evaluated g t c =
+pub solve-returns-in_ok-rows-in-Distinct-clause-evaluated : goal.solve-returns-in_ok-rows-in-Distinct-clause-evaluated
+solve-returns-in_ok-rows-in-Distinct-clause-evaluated g t c =
     let s = c.args.self.now in
     let S : Operator → List (Solution Term) = λ tree. tree_solutions c.args.dict s.index.now s.width c.args.active tree in
-    as_whole c.args.dict s.width c.solve_distinct.result (distinct term_eq (S c.deref-in-Distinct.result.now)) (S c.args.tree.now)
+    as_whole c.args.dict s.width c.distinct.result (distinct term_eq (S c.deref-in-Distinct.result.now)) (S c.args.tree.now)
     (ap S c.in-Distinct.is ∙ distinct_tree c.args.dict s.index.now s.width c.args.active c.in-Distinct.inner ∙ (λ i. distinct term_eq (S ((sym c.deref-in-Distinct.ensures) i))))
-    c.solve_distinct.ensures.evaluated
+    (after_one c.args.dict c.in_ok-rows-in-Distinct.dict s.width c.distinct.result (distinct term_eq) (distinct_keeps) (S c.deref-in-Distinct.result.now) c.in_ok-rows-in-Distinct.rows c.in_ok-rows-in-Distinct.ensures.evaluated c.distinct.ensures.evaluated)
 
-pub solve-returns-in-Distinct-clause-needed : goal.solve-returns-in-Distinct-clause-needed
-solve-returns-in-Distinct-clause-needed g t c =
+pub solve-returns-in_ok-rows-in-Distinct-clause-needed : goal.solve-returns-in_ok-rows-in-Distinct-clause-needed
+solve-returns-in_ok-rows-in-Distinct-clause-needed g t c =
     let s = c.args.self.now in
-    takes_as c.args.dict s.index.now s.width c.args.active c.solve_distinct.result (algebra_of c.args.tree.now) (algebra.Distinct (algebra_of c.deref-in-Distinct.result.now))
+    takes_as c.args.dict s.index.now s.width c.args.active c.distinct.result (algebra_of c.args.tree.now) (algebra.Distinct (algebra_of c.deref-in-Distinct.result.now))
     (ap algebra_of c.in-Distinct.is ∙ distinct_denotes c.in-Distinct.inner ∙ (λ i. algebra.Distinct (algebra_of ((sym c.deref-in-Distinct.ensures) i))))
-    c.solve_distinct.ensures.needed
+    (takes_still (Needed c.args.dict s.index.now s.width c.args.active (algebra_of c.deref-in-Distinct.result.now)) c.args.dict c.in_ok-rows-in-Distinct.dict c.distinct.result c.in_ok-rows-in-Distinct.ensures.needed c.distinct.ensures.same_dict)
 
 -- ---- an operator over the rows of its inputs
 
@@ -286,40 +290,6 @@ solve_minus-returns-clause-needed g t c =
     let s = c.args.self.now in
     takes_still (Needed c.args.dict s.index.now s.width c.args.active (algebra_of c.args.right.now)) c.args.dict c.in_ok-right.dict c.minus_with.result c.in_ok-right.ensures.needed c.minus_with.ensures.same_dict
 
-pub solve_extend-returns-clause-evaluated : goal.solve_extend-returns-clause-evaluated
-solve_extend-returns-clause-evaluated g t c =
-    let s = c.args.self.now in
-    let S : Operator → List (Solution Term) = λ tree. tree_solutions c.args.dict s.index.now s.width c.args.active tree in
-    after_one c.args.dict c.in_ok-rows.dict s.width c.extend_with.result (extend c.args.variable (val (expression_of c.args.expression.now))) (extend_keeps c.args.variable (val (expression_of c.args.expression.now))) (S c.args.inner.now) c.in_ok-rows.rows c.in_ok-rows.ensures.evaluated c.extend_with.ensures.evaluated
-
-pub solve_extend-returns-clause-needed : goal.solve_extend-returns-clause-needed
-solve_extend-returns-clause-needed g t c =
-    let s = c.args.self.now in
-    takes_values c.args.dict s.index.now s.width c.args.active c.extend_with.result c.args.variable (expression_of c.args.expression.now) (algebra_of c.args.inner.now)
-    c.in_ok-rows.dict c.in_ok-rows.rows c.in_ok-rows.ensures.evaluated c.in_ok-rows.ensures.needed c.extend_with.ensures.needed
-
-pub solve_project-returns-clause-evaluated : goal.solve_project-returns-clause-evaluated
-solve_project-returns-clause-evaluated g t c =
-    let s = c.args.self.now in
-    let S : Operator → List (Solution Term) = λ tree. tree_solutions c.args.dict s.index.now s.width c.args.active tree in
-    after_one c.args.dict c.in_ok-rows.dict s.width c.project_of.result (project c.args.variables.now) (project_keeps c.args.variables.now) (S c.args.inner.now) c.in_ok-rows.rows c.in_ok-rows.ensures.evaluated c.project_of.ensures.evaluated
-
-pub solve_project-returns-clause-needed : goal.solve_project-returns-clause-needed
-solve_project-returns-clause-needed g t c =
-    let s = c.args.self.now in
-    takes_still (Needed c.args.dict s.index.now s.width c.args.active (algebra_of c.args.inner.now)) c.args.dict c.in_ok-rows.dict c.project_of.result c.in_ok-rows.ensures.needed c.project_of.ensures.same_dict
-
-pub solve_distinct-returns-clause-evaluated : goal.solve_distinct-returns-clause-evaluated
-solve_distinct-returns-clause-evaluated g t c =
-    let s = c.args.self.now in
-    let S : Operator → List (Solution Term) = λ tree. tree_solutions c.args.dict s.index.now s.width c.args.active tree in
-    after_one c.args.dict c.in_ok-rows.dict s.width c.distinct.result (distinct term_eq) (distinct_keeps) (S c.args.inner.now) c.in_ok-rows.rows c.in_ok-rows.ensures.evaluated c.distinct.ensures.evaluated
-
-pub solve_distinct-returns-clause-needed : goal.solve_distinct-returns-clause-needed
-solve_distinct-returns-clause-needed g t c =
-    let s = c.args.self.now in
-    takes_still (Needed c.args.dict s.index.now s.width c.args.active (algebra_of c.args.inner.now)) c.args.dict c.in_ok-rows.dict c.distinct.result c.in_ok-rows.ensures.needed c.distinct.ensures.same_dict
-
 -- ---- Table
 
 pub solve-table-requires : goal.solve-table-requires
@@ -359,32 +329,34 @@ solve-returns-in-Graph-clause-needed g t c =
     takes_as c.args.dict s.index.now s.width c.args.active c.solve_graph.result (algebra_of c.args.tree.now) (algebra.Graph (graph_name_of c.in-Graph.name) (algebra_of c.deref-in-Graph.result.now))
     (ap algebra_of c.in-Graph.is ∙ graph_denotes c.in-Graph.name c.in-Graph.inner ∙ (λ i. algebra.Graph (graph_name_of c.in-Graph.name) (algebra_of ((sym c.deref-in-Graph.ensures) i)))) c.solve_graph.ensures.needed
 
+pub solve_graph-solve_each-requires-clause-graphs : goal.solve_graph-solve_each-requires-clause-graphs
+solve_graph-solve_each-requires-clause-graphs g t c κs within =
+    all_graphs c.args.dict c.len-distinct.ensures.distinct c.args.self.now.index.now c.requires.index c.graphs.result.now c.graphs.ensures.names
+
+pub solve_graph-returns-in-Variable-clause-evaluated : goal.solve_graph-returns-in-Variable-clause-evaluated
+solve_graph-returns-in-Variable-clause-evaluated g t c =
+    let s = c.args.self.now in
+    let terms = c.args.dict in
+    let v = c.in-Variable.variable in
+    let F : Term → List (Solution Term) = λ i. join term_eq (eval s.width (quads_at terms s.index.now) (Some i) (algebra_of c.args.inner.now)) (named s.width v i) in
+    subst (λ (n : GraphName). IfOk c.solve_each.result (λ r. IsEvaluated terms s.width (graph_solutions terms s.index.now s.width (graph_name_of n) c.args.inner.now) r.0 r.1)) (sym c.in-Variable.is)
+    (as_bag terms s.width c.solve_each.result (flat_map F (map (term_at terms) c.graphs.result.now)) (graph_solutions terms s.index.now s.width (each_graph v) c.args.inner.now)
+    (all_named terms c.len-distinct.ensures.distinct s.index.now c.requires.index c.graphs.result.now c.graphs.ensures.names F) c.solve_each.ensures.evaluated)
+
 pub solve_graph-returns-in-Variable-clause-needed : goal.solve_graph-returns-in-Variable-clause-needed
 solve_graph-returns-in-Variable-clause-needed g t c =
     let s = c.args.self.now in
-    subst (λ (n : GraphName). IfOk c.solve_all.result (λ r. TakesOnly (NeededIn c.args.dict s.index.now s.width (graph_name_of n) (algebra_of c.args.inner.now)) c.args.dict r.1)) (sym c.in-Variable.is) c.solve_all.ensures.needed
-
-pub solve_all-solve_each-requires-clause-graphs : goal.solve_all-solve_each-requires-clause-graphs
-solve_all-solve_each-requires-clause-graphs g t c κs within =
-    all_graphs c.args.dict c.len-distinct.ensures.distinct c.args.self.now.index.now c.requires.index c.graphs.result.now c.graphs.ensures.names
-
-pub solve_all-returns-clause-evaluated : goal.solve_all-returns-clause-evaluated
-solve_all-returns-clause-evaluated g t c =
-    let s = c.args.self.now in
-    let terms = c.args.dict in
-    let F : Term → List (Solution Term) = λ i. join term_eq (eval s.width (quads_at terms s.index.now) (Some i) (algebra_of c.args.inner.now)) (named s.width c.args.variable i) in
-    as_bag terms s.width c.solve_each.result (flat_map F (map (term_at terms) c.graphs.result.now)) (graph_solutions terms s.index.now s.width (each_graph c.args.variable) c.args.inner.now)
-    (all_named terms c.len-distinct.ensures.distinct s.index.now c.requires.index c.graphs.result.now c.graphs.ensures.names F) c.solve_each.ensures.evaluated
+    subst (λ (n : GraphName). IfOk c.solve_each.result (λ r. TakesOnly (NeededIn c.args.dict s.index.now s.width (graph_name_of n) (algebra_of c.args.inner.now)) c.args.dict r.1)) (sym c.in-Variable.is) c.solve_each.ensures.needed
 
 -- ---- some graphs
 
-pub solve_once-solve_join-requires-clause-known_left : goal.solve_once-solve_join-requires-clause-known_left
-solve_once-solve_join-requires-clause-known_left g t c κs within =
+pub solve_each-solve_join-requires-clause-known_left : goal.solve_each-solve_join-requires-clause-known_left
+solve_each-solve_join-requires-clause-known_left g t c κs within =
     let s = c.args.self.now in
     (names_evaluated c.args.dict s.width c.args.variable c.args.graphs.now (λ k n at. (c.requires.graphs.1 k n at).0) c.in_ok-names.names c.in_ok-names.ensures.width c.in_ok-names.ensures.rows).known
 
-pub solve_once-returns-clause-evaluated : goal.solve_once-returns-clause-evaluated
-solve_once-returns-clause-evaluated g t c =
+pub solve_each-returns-then-is_closed-clause-evaluated : goal.solve_each-returns-then-is_closed-clause-evaluated
+solve_each-returns-then-is_closed-clause-evaluated g t c =
     let s = c.args.self.now in
     let terms = c.args.dict in
     let C = algebra_of c.args.inner.now in
@@ -392,13 +364,13 @@ solve_once-returns-clause-evaluated g t c =
     let B = tree_solutions terms s.index.now s.width None c.args.inner.now in
     let names = names_evaluated terms s.width c.args.variable c.args.graphs.now (λ k n at. (c.requires.graphs.1 k n at).0) c.in_ok-names.names c.in_ok-names.ensures.width c.in_ok-names.ensures.rows in
     as_whole terms s.width c.solve_join.result (join term_eq A B) (solutions_in terms s.index.now s.width c.args.variable c.args.graphs.now C)
-    (closed_in s.width (quads_at terms s.index.now) c.args.variable (map (term_at terms) c.args.graphs.now) C c.requires.closed)
+    (closed_in s.width (quads_at terms s.index.now) c.args.variable (map (term_at terms) c.args.graphs.now) C (sym c.is_closed.ensures.value ∙ c.if-is_closed.true))
     (after_left terms terms s.width c.solve_join.result (join term_eq) join_keeps A B B refl c.in_ok-names.names names c.solve_join.ensures.evaluated)
 
-pub solve_once-returns-clause-needed : goal.solve_once-returns-clause-needed
-solve_once-returns-clause-needed g t c =
+pub solve_each-returns-then-is_closed-clause-needed : goal.solve_each-returns-then-is_closed-clause-needed
+solve_each-returns-then-is_closed-clause-needed g t c =
     let s = c.args.self.now in
-    takes_closed c.args.dict s.index.now s.width c.args.variable c.args.graphs.now c.requires.graphs c.solve_join.result (algebra_of c.args.inner.now) c.requires.some c.requires.closed c.solve_join.ensures.needed
+    takes_closed c.args.dict s.index.now s.width c.args.variable c.args.graphs.now c.requires.graphs c.solve_join.result (algebra_of c.args.inner.now) (some_graphs c.args.graphs.now c.if-is_empty.ensures) (sym c.is_closed.ensures.value ∙ c.if-is_closed.true) c.solve_join.ensures.needed
 
 -- ---- no graph
 
@@ -409,11 +381,11 @@ solve_each-returns-then-is_empty-clause-evaluated g t c =
 
 -- ---- a join with a closed tree
 
-pub solve_each-solve_join-requires-clause-index : goal.solve_each-solve_join-requires-clause-index
-solve_each-solve_join-requires-clause-index g t c κs within = (index_kept c.args.dict c.in_ok-rows.dict c.in_ok-rows.ensures.evaluated.grown c.args.self.now.index.now c.requires.index).0
+pub solve_each-solve_join-requires-then-is_closed-2-clause-index : goal.solve_each-solve_join-requires-then-is_closed-2-clause-index
+solve_each-solve_join-requires-then-is_closed-2-clause-index g t c κs within = (index_kept c.args.dict c.in_ok-rows.dict c.in_ok-rows.ensures.evaluated.grown c.args.self.now.index.now c.requires.index).0
 
-pub solve_each-solve_join-requires-clause-within : goal.solve_each-solve_join-requires-clause-within
-solve_each-solve_join-requires-clause-within g t c κs within =
+pub solve_each-solve_join-requires-then-is_closed-2-clause-within : goal.solve_each-solve_join-requires-then-is_closed-2-clause-within
+solve_each-solve_join-requires-then-is_closed-2-clause-within g t c κs within =
     subst (λ (T : Operator). is_within c.args.self.now.width (algebra_of T) ≡ true) (sym c.deref-then-is_closed-2-2.ensures) (join_within c.args.self.now.width c.in-Join.left c.in-Join.right c.args.inner.now c.in-Join.is c.requires.within).1
 
 pub solve_each-returns-then-is_closed-2-clause-evaluated : goal.solve_each-returns-then-is_closed-2-clause-evaluated
@@ -427,12 +399,12 @@ solve_each-returns-then-is_closed-2-clause-evaluated g t c =
     let C = algebra_of c.in-Join.right.value in
     let closed : is_closed C ≡ true = ap (λ (T : Operator). is_closed (algebra_of T)) (sym c.deref.ensures) ∙ sym c.is_closed-in-Join.ensures.value ∙ c.if-is_closed-2.true in
     let h = c.in_ok-rows.ensures.evaluated in
-    as_whole terms s.width c.solve_join.result (join term_eq (whole L) (tree_solutions terms s.index.now s.width None c.in-Join.right.value)) (whole (algebra_of c.args.inner.now))
+    as_whole terms s.width c.solve_join-then-is_closed-2.result (join term_eq (whole L) (tree_solutions terms s.index.now s.width None c.in-Join.right.value)) (whole (algebra_of c.args.inner.now))
     (ap (λ (T : Operator). whole (algebra_of T)) c.in-Join.is ∙ ap whole (join_denotes c.in-Join.left c.in-Join.right) ∙ joined_in s.width (quads_at terms s.index.now) v (map (term_at terms) graphs) L C closed)
-    (after_left terms c.in_ok-rows.dict s.width c.solve_join.result (join term_eq) join_keeps (whole L) (tree_solutions terms s.index.now s.width None c.in-Join.right.value)
+    (after_left terms c.in_ok-rows.dict s.width c.solve_join-then-is_closed-2.result (join term_eq) join_keeps (whole L) (tree_solutions terms s.index.now s.width None c.in-Join.right.value)
     (tree_solutions c.in_ok-rows.dict s.index.now s.width None c.deref-then-is_closed-2-2.result.now)
     (tree_kept terms c.in_ok-rows.dict h.grown s.index.now s.width None c.deref-then-is_closed-2-2.result.now c.requires.index (λ n e. cc) ∙ ap (tree_solutions terms s.index.now s.width None) c.deref-then-is_closed-2-2.ensures)
-    c.in_ok-rows.rows (subst (λ (T : Operator). IsEvaluated terms s.width (whole (algebra_of T)) c.in_ok-rows.rows c.in_ok-rows.dict) c.deref-then-is_closed-2.ensures h) c.solve_join.ensures.evaluated)
+    c.in_ok-rows.rows (subst (λ (T : Operator). IsEvaluated terms s.width (whole (algebra_of T)) c.in_ok-rows.rows c.in_ok-rows.dict) c.deref-then-is_closed-2.ensures h) c.solve_join-then-is_closed-2.ensures.evaluated)
 
 pub solve_each-returns-then-is_closed-2-clause-needed : goal.solve_each-returns-then-is_closed-2-clause-needed
 solve_each-returns-then-is_closed-2-clause-needed g t c =
@@ -444,10 +416,10 @@ solve_each-returns-then-is_closed-2-clause-needed g t c =
     let closed : is_closed C ≡ true = ap (λ (T : Operator). is_closed (algebra_of T)) (sym c.deref.ensures) ∙ sym c.is_closed-in-Join.ensures.value ∙ c.if-is_closed-2.true in
     let is : algebra_of c.args.inner.now ≡ algebra.Join L C = ap algebra_of c.in-Join.is ∙ join_denotes c.in-Join.left c.in-Join.right in
     let some = some_graphs c.args.graphs.now c.if-is_empty.ensures in
-    takes_as_each terms s.index.now s.width v c.solve_join.result (algebra_of c.args.inner.now) (algebra.Join L C) is
-    (takes_then terms s.index.now s.width v c.args.graphs.now c.requires.graphs c.solve_join.result L C c.in_ok-rows.dict c.in_ok-rows.ensures.evaluated.grown c.requires.index some closed
+    takes_as_each terms s.index.now s.width v c.solve_join-then-is_closed-2.result (algebra_of c.args.inner.now) (algebra.Join L C) is
+    (takes_then terms s.index.now s.width v c.args.graphs.now c.requires.graphs c.solve_join-then-is_closed-2.result L C c.in_ok-rows.dict c.in_ok-rows.ensures.evaluated.grown c.requires.index some closed
     (subst (λ (T : Operator). TakesOnly (NeededIn terms s.index.now s.width (each_graph v) (algebra_of T)) terms c.in_ok-rows.dict) c.deref-then-is_closed-2.ensures c.in_ok-rows.ensures.needed)
-    (subst (λ (T : Operator). IfOk c.solve_join.result (λ x. TakesOnly (Needed c.in_ok-rows.dict s.index.now s.width None (algebra_of T)) c.in_ok-rows.dict x.1)) c.deref-then-is_closed-2-2.ensures c.solve_join.ensures.needed))
+    (subst (λ (T : Operator). IfOk c.solve_join-then-is_closed-2.result (λ x. TakesOnly (Needed c.in_ok-rows.dict s.index.now s.width None (algebra_of T)) c.in_ok-rows.dict x.1)) c.deref-then-is_closed-2-2.ensures c.solve_join-then-is_closed-2.ensures.needed))
 
 pub solve_each-solve_join-requires-then-is_closed-3-clause-index : goal.solve_each-solve_join-requires-then-is_closed-3-clause-index
 solve_each-solve_join-requires-then-is_closed-3-clause-index g t c κs within = (index_kept c.args.dict c.in_ok-others.dict c.in_ok-others.ensures.evaluated.grown c.args.self.now.index.now c.requires.index).0
@@ -565,11 +537,11 @@ solve_in_turn-returns-clause-needed g t c = c.loop-i.invariant.takes
 
 -- ---- what the calls require
 
-pub solve-pattern-requires-clause-index : goal.solve-pattern-requires-clause-index
-solve-pattern-requires-clause-index g t c κs within = c.requires.index
+pub solve-pattern_with-requires-clause-index : goal.solve-pattern_with-requires-clause-index
+solve-pattern_with-requires-clause-index g t c κs within = c.requires.index
 
-pub solve-pattern-requires-clause-active : goal.solve-pattern-requires-clause-active
-solve-pattern-requires-clause-active g t c κs within = c.requires.active
+pub solve-pattern_with-requires-clause-active : goal.solve-pattern_with-requires-clause-active
+solve-pattern_with-requires-clause-active g t c κs within = c.requires.active
 
 pub solve-solve-requires-clause-index : goal.solve-solve-requires-clause-index
 solve-solve-requires-clause-index g t c κs within = c.requires.index
@@ -595,29 +567,29 @@ solve-solve-requires-in-Minus-clause-index g t c κs within = c.requires.index
 pub solve-solve-requires-in-Minus-clause-active : goal.solve-solve-requires-in-Minus-clause-active
 solve-solve-requires-in-Minus-clause-active g t c κs within = c.requires.active
 
-pub solve-solve_filter-requires-clause-index : goal.solve-solve_filter-requires-clause-index
-solve-solve_filter-requires-clause-index g t c κs within = c.requires.index
+pub solve-solve_filter_where-requires-clause-index : goal.solve-solve_filter_where-requires-clause-index
+solve-solve_filter_where-requires-clause-index g t c κs within = c.requires.index
 
-pub solve-solve_filter-requires-clause-active : goal.solve-solve_filter-requires-clause-active
-solve-solve_filter-requires-clause-active g t c κs within = c.requires.active
+pub solve-solve_filter_where-requires-clause-active : goal.solve-solve_filter_where-requires-clause-active
+solve-solve_filter_where-requires-clause-active g t c κs within = c.requires.active
 
-pub solve-solve_extend-requires-clause-index : goal.solve-solve_extend-requires-clause-index
-solve-solve_extend-requires-clause-index g t c κs within = c.requires.index
+pub solve-solve-requires-in-Extend-clause-index : goal.solve-solve-requires-in-Extend-clause-index
+solve-solve-requires-in-Extend-clause-index g t c κs within = c.requires.index
 
-pub solve-solve_extend-requires-clause-active : goal.solve-solve_extend-requires-clause-active
-solve-solve_extend-requires-clause-active g t c κs within = c.requires.active
+pub solve-solve-requires-in-Extend-clause-active : goal.solve-solve-requires-in-Extend-clause-active
+solve-solve-requires-in-Extend-clause-active g t c κs within = c.requires.active
 
-pub solve-solve_project-requires-clause-index : goal.solve-solve_project-requires-clause-index
-solve-solve_project-requires-clause-index g t c κs within = c.requires.index
+pub solve-solve-requires-in-Project-clause-index : goal.solve-solve-requires-in-Project-clause-index
+solve-solve-requires-in-Project-clause-index g t c κs within = c.requires.index
 
-pub solve-solve_project-requires-clause-active : goal.solve-solve_project-requires-clause-active
-solve-solve_project-requires-clause-active g t c κs within = c.requires.active
+pub solve-solve-requires-in-Project-clause-active : goal.solve-solve-requires-in-Project-clause-active
+solve-solve-requires-in-Project-clause-active g t c κs within = c.requires.active
 
-pub solve-solve_distinct-requires-clause-index : goal.solve-solve_distinct-requires-clause-index
-solve-solve_distinct-requires-clause-index g t c κs within = c.requires.index
+pub solve-solve-requires-in-Distinct-clause-index : goal.solve-solve-requires-in-Distinct-clause-index
+solve-solve-requires-in-Distinct-clause-index g t c κs within = c.requires.index
 
-pub solve-solve_distinct-requires-clause-active : goal.solve-solve_distinct-requires-clause-active
-solve-solve_distinct-requires-clause-active g t c κs within = c.requires.active
+pub solve-solve-requires-in-Distinct-clause-active : goal.solve-solve-requires-in-Distinct-clause-active
+solve-solve-requires-in-Distinct-clause-active g t c κs within = c.requires.active
 
 pub solve-solve_graph-requires-clause-index : goal.solve-solve_graph-requires-clause-index
 solve-solve_graph-requires-clause-index g t c κs within = c.requires.index
@@ -658,41 +630,14 @@ solve_minus-solve_to_join-requires-clause-active g t c κs within = c.requires.a
 pub solve_minus-solve_to_join-requires-clause-within : goal.solve_minus-solve_to_join-requires-clause-within
 solve_minus-solve_to_join-requires-clause-within g t c κs within = c.requires.within
 
-pub solve_extend-solve-requires-clause-index : goal.solve_extend-solve-requires-clause-index
-solve_extend-solve-requires-clause-index g t c κs within = c.requires.index
-
-pub solve_extend-solve-requires-clause-active : goal.solve_extend-solve-requires-clause-active
-solve_extend-solve-requires-clause-active g t c κs within = c.requires.active
-
-pub solve_extend-solve-requires-clause-within : goal.solve_extend-solve-requires-clause-within
-solve_extend-solve-requires-clause-within g t c κs within = c.requires.within
-
-pub solve_project-solve-requires-clause-index : goal.solve_project-solve-requires-clause-index
-solve_project-solve-requires-clause-index g t c κs within = c.requires.index
-
-pub solve_project-solve-requires-clause-active : goal.solve_project-solve-requires-clause-active
-solve_project-solve-requires-clause-active g t c κs within = c.requires.active
-
-pub solve_project-solve-requires-clause-within : goal.solve_project-solve-requires-clause-within
-solve_project-solve-requires-clause-within g t c κs within = c.requires.within
-
-pub solve_distinct-solve-requires-clause-index : goal.solve_distinct-solve-requires-clause-index
-solve_distinct-solve-requires-clause-index g t c κs within = c.requires.index
-
-pub solve_distinct-solve-requires-clause-active : goal.solve_distinct-solve-requires-clause-active
-solve_distinct-solve-requires-clause-active g t c κs within = c.requires.active
-
-pub solve_distinct-solve-requires-clause-within : goal.solve_distinct-solve-requires-clause-within
-solve_distinct-solve-requires-clause-within g t c κs within = c.requires.within
-
 pub solve_graph-solve-requires-clause-index : goal.solve_graph-solve-requires-clause-index
 solve_graph-solve-requires-clause-index g t c κs within = c.requires.index
 
 pub solve_graph-solve-requires-clause-within : goal.solve_graph-solve-requires-clause-within
 solve_graph-solve-requires-clause-within g t c κs within = c.requires.within
 
-pub solve_graph-solve_all-requires-clause-index : goal.solve_graph-solve_all-requires-clause-index
-solve_graph-solve_all-requires-clause-index g t c κs within = c.requires.index
+pub solve_graph-solve_each-requires-clause-index : goal.solve_graph-solve_each-requires-clause-index
+solve_graph-solve_each-requires-clause-index g t c κs within = c.requires.index
 
 pub solve_in_turn-solve-requires-clause-index : goal.solve_in_turn-solve-requires-clause-index
 solve_in_turn-solve-requires-clause-index g t c κs within = (index_kept c.args.dict c.loop-i.dict c.loop-i.invariant.grown c.args.self.now.index.now c.requires.index).0
@@ -768,33 +713,40 @@ solve-solve_minus-requires-clause-known_left g t c κs within = c.in_ok-left-in-
 pub solve-returns-in_ok-left-in-Minus-clause-one_worker : goal.solve-returns-in_ok-left-in-Minus-clause-one_worker
 solve-returns-in_ok-left-in-Minus-clause-one_worker g t c = c.solve_minus.ensures.one_worker
 
-pub solve-solve_filter-requires-clause-within : goal.solve-solve_filter-requires-clause-within
-solve-solve_filter-requires-clause-within g t c κs within =
+pub solve-solve_filter_where-requires-clause-within : goal.solve-solve_filter_where-requires-clause-within
+solve-solve_filter_where-requires-clause-within g t c κs within =
     subst (λ (T : Operator). is_within c.args.self.now.width (algebra_of T) ≡ true) (sym c.deref-in-Filter.ensures) (filter_within c.args.self.now.width c.in-Filter.condition c.in-Filter.inner c.args.tree.now c.in-Filter.is c.requires.within)
 
 pub solve-returns-in-Filter-clause-one_worker : goal.solve-returns-in-Filter-clause-one_worker
-solve-returns-in-Filter-clause-one_worker g t c = c.solve_filter.ensures.one_worker
+solve-returns-in-Filter-clause-one_worker g t c = c.solve_filter_where.ensures.one_worker
 
-pub solve-solve_extend-requires-clause-within : goal.solve-solve_extend-requires-clause-within
-solve-solve_extend-requires-clause-within g t c κs within =
+pub solve-solve-requires-in-Extend-clause-within : goal.solve-solve-requires-in-Extend-clause-within
+solve-solve-requires-in-Extend-clause-within g t c κs within =
     subst (λ (T : Operator). is_within c.args.self.now.width (algebra_of T) ≡ true) (sym c.deref-in-Extend.ensures) (extend_within c.args.self.now.width c.in-Extend.variable c.in-Extend.expression c.in-Extend.inner c.args.tree.now c.in-Extend.is c.requires.within)
 
-pub solve-returns-in-Extend-clause-one_worker : goal.solve-returns-in-Extend-clause-one_worker
-solve-returns-in-Extend-clause-one_worker g t c = c.solve_extend.ensures.one_worker
+pub solve-returns-in_ok-rows-in-Extend-clause-one_worker : goal.solve-returns-in_ok-rows-in-Extend-clause-one_worker
+solve-returns-in_ok-rows-in-Extend-clause-one_worker g t c = c.extend.ensures.one_worker
 
-pub solve-solve_project-requires-clause-within : goal.solve-solve_project-requires-clause-within
-solve-solve_project-requires-clause-within g t c κs within =
+pub solve-extend-requires-clause-known : goal.solve-extend-requires-clause-known
+solve-extend-requires-clause-known g t c κs within = c.in_ok-rows-in-Extend.ensures.evaluated.known
+
+pub solve-extend-requires-clause-variable : goal.solve-extend-requires-clause-variable
+solve-extend-requires-clause-variable g t c κs within =
+    subst (λ (w : ℕ). c.in-Extend.variable < w) (sym c.in_ok-rows-in-Extend.ensures.evaluated.wide) (extend_below c.args.self.now.width c.in-Extend.variable c.in-Extend.expression c.in-Extend.inner c.args.tree.now c.in-Extend.is c.requires.within)
+
+pub solve-solve-requires-in-Project-clause-within : goal.solve-solve-requires-in-Project-clause-within
+solve-solve-requires-in-Project-clause-within g t c κs within =
     subst (λ (T : Operator). is_within c.args.self.now.width (algebra_of T) ≡ true) (sym c.deref-in-Project.ensures) (project_within c.args.self.now.width c.in-Project.variables c.in-Project.inner c.args.tree.now c.in-Project.is c.requires.within)
 
-pub solve-returns-in-Project-clause-one_worker : goal.solve-returns-in-Project-clause-one_worker
-solve-returns-in-Project-clause-one_worker g t c = c.solve_project.ensures.one_worker
+pub solve-returns-in_ok-rows-in-Project-clause-one_worker : goal.solve-returns-in_ok-rows-in-Project-clause-one_worker
+solve-returns-in_ok-rows-in-Project-clause-one_worker g t c = λ _. c.project_of.ensures.memory
 
-pub solve-solve_distinct-requires-clause-within : goal.solve-solve_distinct-requires-clause-within
-solve-solve_distinct-requires-clause-within g t c κs within =
+pub solve-solve-requires-in-Distinct-clause-within : goal.solve-solve-requires-in-Distinct-clause-within
+solve-solve-requires-in-Distinct-clause-within g t c κs within =
     subst (λ (T : Operator). is_within c.args.self.now.width (algebra_of T) ≡ true) (sym c.deref-in-Distinct.ensures) (distinct_within c.args.self.now.width c.in-Distinct.inner c.args.tree.now c.in-Distinct.is c.requires.within)
 
-pub solve-returns-in-Distinct-clause-one_worker : goal.solve-returns-in-Distinct-clause-one_worker
-solve-returns-in-Distinct-clause-one_worker g t c = c.solve_distinct.ensures.one_worker
+pub solve-returns-in_ok-rows-in-Distinct-clause-one_worker : goal.solve-returns-in_ok-rows-in-Distinct-clause-one_worker
+solve-returns-in_ok-rows-in-Distinct-clause-one_worker g t c = λ _. c.distinct.ensures.memory
 
 pub solve-solve_graph-requires-clause-within : goal.solve-solve_graph-requires-clause-within
 solve-solve_graph-requires-clause-within g t c κs within =
@@ -804,7 +756,7 @@ pub solve-returns-in-Graph-clause-one_worker : goal.solve-returns-in-Graph-claus
 solve-returns-in-Graph-clause-one_worker g t c = c.solve_graph.ensures.one_worker
 
 pub solve-returns-in-Pattern-clause-one_worker : goal.solve-returns-in-Pattern-clause-one_worker
-solve-returns-in-Pattern-clause-one_worker g t c = c.pattern.ensures.one_worker
+solve-returns-in-Pattern-clause-one_worker g t c = c.pattern_with.ensures.one_worker
 
 pub solve_join-join_of-requires-clause-same_width : goal.solve_join-join_of-requires-clause-same_width
 solve_join-join_of-requires-clause-same_width g t c κs within = c.requires.same_width ∙ sym c.in_ok-right.ensures.evaluated.wide
@@ -839,51 +791,13 @@ solve_union-union_of-requires-clause-same_width g t c = c.requires.same_width �
 pub solve_union-union_of-requires-clause-known_right : goal.solve_union-union_of-requires-clause-known_right
 solve_union-union_of-requires-clause-known_right g t c = c.in_ok-right.ensures.evaluated.known
 
-pub solve_extend-extend_with-requires-clause-known : goal.solve_extend-extend_with-requires-clause-known
-solve_extend-extend_with-requires-clause-known g t c κs within = c.in_ok-rows.ensures.evaluated.known
-
-pub solve_extend-returns-clause-one_worker : goal.solve_extend-returns-clause-one_worker
-solve_extend-returns-clause-one_worker g t c = c.extend_with.ensures.one_worker
-
-pub solve_extend-extend_with-requires-clause-variable : goal.solve_extend-extend_with-requires-clause-variable
-solve_extend-extend_with-requires-clause-variable g t c κs within = subst (λ (w : ℕ). c.args.variable < w) (sym c.in_ok-rows.ensures.evaluated.wide) c.requires.variable
-
 pub solve_union-returns-clause-one_worker : goal.solve_union-returns-clause-one_worker
 solve_union-returns-clause-one_worker g t c = λ _. c.union_of.ensures.memory
-
-pub solve_project-returns-clause-one_worker : goal.solve_project-returns-clause-one_worker
-solve_project-returns-clause-one_worker g t c = λ _. c.project_of.ensures.memory
-
-pub solve_distinct-returns-clause-one_worker : goal.solve_distinct-returns-clause-one_worker
-solve_distinct-returns-clause-one_worker g t c = λ _. c.distinct.ensures.memory
 
 pub solve-returns-in-Table-clause-one_worker : goal.solve-returns-in-Table-clause-one_worker
 solve-returns-in-Table-clause-one_worker g t c = λ _. c.table.ensures.memory
 
 -- ---- solutions that fit
-
-pub solve_filter-solve_filter_where-requires-clause-index : goal.solve_filter-solve_filter_where-requires-clause-index
-solve_filter-solve_filter_where-requires-clause-index g t c κs within = c.requires.index
-
-pub solve_filter-solve_filter_where-requires-clause-active : goal.solve_filter-solve_filter_where-requires-clause-active
-solve_filter-solve_filter_where-requires-clause-active g t c κs within = c.requires.active
-
-pub solve_filter-solve_filter_where-requires-clause-within : goal.solve_filter-solve_filter_where-requires-clause-within
-solve_filter-solve_filter_where-requires-clause-within g t c κs within = c.requires.within
-
-pub solve_filter-returns-clause-evaluated : goal.solve_filter-returns-clause-evaluated
-solve_filter-returns-clause-evaluated g t c =
-    let s = c.args.self.now in
-    let S : Operator → List (Solution Term) = λ tree. tree_solutions c.args.dict s.index.now s.width c.args.active tree in
-    IfOk-weaker c.solve_filter_where.result (λ x. IsEvaluatedWhere c.args.dict s.width (fits []) (filter (holds (expression_of c.args.condition.now)) (S c.args.inner.now)) x.0 x.1)
-    (λ x. IsEvaluated c.args.dict s.width (filter (holds (expression_of c.args.condition.now)) (S c.args.inner.now)) x.0 x.1)
-    (λ x h. where_all c.args.dict s.width (filter (holds (expression_of c.args.condition.now)) (S c.args.inner.now)) x.0 x.1 h) c.solve_filter_where.ensures.evaluated
-
-pub solve_filter-returns-clause-needed : goal.solve_filter-returns-clause-needed
-solve_filter-returns-clause-needed g t c = c.solve_filter_where.ensures.needed
-
-pub solve_filter-returns-clause-one_worker : goal.solve_filter-returns-clause-one_worker
-solve_filter-returns-clause-one_worker g t c = c.solve_filter_where.ensures.one_worker
 
 pub solve_filter_where-solve_where-requires-clause-index : goal.solve_filter_where-solve_where-requires-clause-index
 solve_filter_where-solve_where-requires-clause-index g t c κs within = c.requires.index
@@ -1158,33 +1072,6 @@ solve_join_next-returns-clause-needed g t c =
 pub solve_join_next-returns-clause-one_worker : goal.solve_join_next-returns-clause-one_worker
 solve_join_next-returns-clause-one_worker g t c = c.join_of.ensures.one_worker
 
-pub solve_found-solve_each-requires-clause-index : goal.solve_found-solve_each-requires-clause-index
-solve_found-solve_each-requires-clause-index g t c κs within = c.requires.index
-
-pub solve_found-solve_each-requires-clause-variable : goal.solve_found-solve_each-requires-clause-variable
-solve_found-solve_each-requires-clause-variable g t c κs within = c.requires.variable
-
-pub solve_found-solve_each-requires-clause-within : goal.solve_found-solve_each-requires-clause-within
-solve_found-solve_each-requires-clause-within g t c κs within = c.requires.within
-
-pub solve_found-solve_each-requires-clause-graphs : goal.solve_found-solve_each-requires-clause-graphs
-solve_found-solve_each-requires-clause-graphs g t c κs within =
-    subst (λ (l : List ℕ). AreGraphs c.args.dict c.args.self.now.index.now l) (sym c.as_slice.ensures.value)
-    (possible_are c.args.dict c.len-distinct.ensures.distinct c.args.self.now.index.now c.requires.index c.args.others.now.rows c.args.variable c.args.found.items c.requires.found)
-
-pub solve_found-returns-clause-evaluated : goal.solve_found-returns-clause-evaluated
-solve_found-returns-clause-evaluated g t c =
-    let s = c.args.self.now in
-    let terms = c.args.dict in
-    possible_suffice terms c.len-distinct.ensures.distinct s.index.now c.requires.index s.width c.args.variable c.requires.variable c.args.inner.now c.args.others.now c.requires.known_others c.solve_each.result c.args.found.items c.requires.found
-    (subst (λ (l : List ℕ). IfOk c.solve_each.result (λ r. IsEvaluated terms s.width (solutions_in terms s.index.now s.width c.args.variable l (algebra_of c.args.inner.now)) r.0 r.1)) c.as_slice.ensures.value c.solve_each.ensures.evaluated)
-
-pub solve_found-returns-clause-needed : goal.solve_found-returns-clause-needed
-solve_found-returns-clause-needed g t c = c.solve_each.ensures.needed
-
-pub solve_found-returns-clause-one_worker : goal.solve_found-returns-clause-one_worker
-solve_found-returns-clause-one_worker g t c = c.solve_each.ensures.one_worker
-
 pub solve_to_join-returns-in-Graph-clause-evaluated : goal.solve_to_join-returns-in-Graph-clause-evaluated
 solve_to_join-returns-in-Graph-clause-evaluated g t c =
     let s = c.args.self.now in
@@ -1276,18 +1163,17 @@ solve_to_join-returns-in_default-clause-needed g t c = c.solve.ensures.needed
 pub solve_to_join-returns-in_default-clause-one_worker : goal.solve_to_join-returns-in_default-clause-one_worker
 solve_to_join-returns-in_default-clause-one_worker g t c = c.solve.ensures.one_worker
 
-pub solve_possible-solve_found-requires-clause-index : goal.solve_possible-solve_found-requires-clause-index
-solve_possible-solve_found-requires-clause-index g t c κs within = c.requires.index
+pub solve_possible-solve_each-requires-clause-index : goal.solve_possible-solve_each-requires-clause-index
+solve_possible-solve_each-requires-clause-index g t c κs within = c.requires.index
 
-pub solve_possible-solve_found-requires-clause-known_others : goal.solve_possible-solve_found-requires-clause-known_others
-solve_possible-solve_found-requires-clause-known_others g t c κs within = c.requires.known_others
+pub solve_possible-solve_each-requires-clause-within : goal.solve_possible-solve_each-requires-clause-within
+solve_possible-solve_each-requires-clause-within g t c κs within = c.requires.within
 
-pub solve_possible-solve_found-requires-clause-within : goal.solve_possible-solve_found-requires-clause-within
-solve_possible-solve_found-requires-clause-within g t c κs within = c.requires.within
-
-pub solve_possible-solve_found-requires-clause-found : goal.solve_possible-solve_found-requires-clause-found
-solve_possible-solve_found-requires-clause-found g t c κs within =
-    (c.graphs-graphs.result.now, (c.graphs-graphs.ensures.names, rw c.in-Some.is at c.in_ok-found.ensures.possible))
+pub solve_possible-solve_each-requires-clause-graphs : goal.solve_possible-solve_each-requires-clause-graphs
+solve_possible-solve_each-requires-clause-graphs g t c κs within =
+    subst (λ (l : List ℕ). AreGraphs c.args.dict c.args.self.now.index.now l) (sym c.as_slice.ensures.value)
+    (possible_are c.args.dict c.len-distinct.ensures.distinct c.args.self.now.index.now c.requires.index c.args.others.now.rows c.in-Variable.variable c.in-Some.found.items
+    (c.graphs-graphs.result.now, (c.graphs-graphs.ensures.names, rw c.in-Some.is at c.in_ok-found.ensures.possible)))
 
 pub solve_possible-solve_graph-requires-clause-index : goal.solve_possible-solve_graph-requires-clause-index
 solve_possible-solve_graph-requires-clause-index g t c κs within = c.requires.index
@@ -1301,15 +1187,21 @@ solve_possible-solve_graph-requires-clause-within g t c κs within = c.requires.
 pub solve_possible-returns-in-Some-clause-evaluated : goal.solve_possible-returns-in-Some-clause-evaluated
 solve_possible-returns-in-Some-clause-evaluated g t c =
     let s = c.args.self.now in
-    subst (λ (n : GraphName). IfOk c.solve_found.result (λ r. IsEvaluatedWhere c.args.dict s.width (meets_some term_eq (solutions_of c.args.dict c.args.others.now)) (graph_solutions c.args.dict s.index.now s.width (graph_name_of n) c.args.inner.now) r.0 r.1)) (sym c.in-Variable.is) c.solve_found.ensures.evaluated
+    let terms = c.args.dict in
+    let v = c.in-Variable.variable in
+    let below = ltb-true v s.width (subst (λ (n : GraphName). is_name_below s.width (graph_name_of n) ≡ true) c.in-Variable.is c.requires.name) in
+    subst (λ (n : GraphName). IfOk c.solve_each.result (λ r. IsEvaluatedWhere terms s.width (meets_some term_eq (solutions_of terms c.args.others.now)) (graph_solutions terms s.index.now s.width (graph_name_of n) c.args.inner.now) r.0 r.1)) (sym c.in-Variable.is)
+    (possible_suffice terms c.len-distinct.ensures.distinct s.index.now c.requires.index s.width v below c.args.inner.now c.args.others.now c.requires.known_others c.solve_each.result c.in-Some.found.items
+    (c.graphs-graphs.result.now, (c.graphs-graphs.ensures.names, rw c.in-Some.is at c.in_ok-found.ensures.possible))
+    (subst (λ (l : List ℕ). IfOk c.solve_each.result (λ r. IsEvaluated terms s.width (solutions_in terms s.index.now s.width v l (algebra_of c.args.inner.now)) r.0 r.1)) c.as_slice.ensures.value c.solve_each.ensures.evaluated))
 
 pub solve_possible-returns-in-Some-clause-needed : goal.solve_possible-returns-in-Some-clause-needed
 solve_possible-returns-in-Some-clause-needed g t c =
     let s = c.args.self.now in
-    subst (λ (n : GraphName). IfOk c.solve_found.result (λ r. TakesOnly (NeededIn c.args.dict s.index.now s.width (graph_name_of n) (algebra_of c.args.inner.now)) c.args.dict r.1)) (sym c.in-Variable.is) c.solve_found.ensures.needed
+    subst (λ (n : GraphName). IfOk c.solve_each.result (λ r. TakesOnly (NeededIn c.args.dict s.index.now s.width (graph_name_of n) (algebra_of c.args.inner.now)) c.args.dict r.1)) (sym c.in-Variable.is) c.solve_each.ensures.needed
 
 pub solve_possible-returns-in-Some-clause-one_worker : goal.solve_possible-returns-in-Some-clause-one_worker
-solve_possible-returns-in-Some-clause-one_worker g t c = c.solve_found.ensures.one_worker
+solve_possible-returns-in-Some-clause-one_worker g t c = c.solve_each.ensures.one_worker
 
 pub solve_possible-returns-clause-evaluated : goal.solve_possible-returns-clause-evaluated
 solve_possible-returns-clause-evaluated g t c =
@@ -1401,20 +1293,20 @@ solve_each_filter-returns-clause-needed g t c =
 pub solve_each_filter-returns-clause-one_worker : goal.solve_each_filter-returns-clause-one_worker
 solve_each_filter-returns-clause-one_worker g t c = c.filter_with.ensures.one_worker
 
-pub solve_each_extend-extend_with-requires-clause-known : goal.solve_each_extend-extend_with-requires-clause-known
-solve_each_extend-extend_with-requires-clause-known g t c κs within = c.in_ok-rows.ensures.evaluated.known
+pub solve_each_extend-extend-requires-clause-known : goal.solve_each_extend-extend-requires-clause-known
+solve_each_extend-extend-requires-clause-known g t c κs within = c.in_ok-rows.ensures.evaluated.known
 
 pub solve_each_extend-returns-clause-evaluated : goal.solve_each_extend-returns-clause-evaluated
 solve_each_extend-returns-clause-evaluated g t c =
     let s = c.args.self.now in
-    extend_each c.args.dict s.index.now s.width c.args.variable c.args.graphs.now c.extend_with.result c.args.bound c.requires.another (expression_of c.args.expression.now) (algebra_of c.args.inner.now) c.requires.not_mentioned
-    c.in_ok-rows.dict c.in_ok-rows.rows c.in_ok-rows.ensures.evaluated c.extend_with.ensures.evaluated
+    extend_each c.args.dict s.index.now s.width c.args.variable c.args.graphs.now c.extend.result c.args.bound c.requires.another (expression_of c.args.expression.now) (algebra_of c.args.inner.now) c.requires.not_mentioned
+    c.in_ok-rows.dict c.in_ok-rows.rows c.in_ok-rows.ensures.evaluated c.extend.ensures.evaluated
 
 pub solve_each_extend-returns-clause-needed : goal.solve_each_extend-returns-clause-needed
 solve_each_extend-returns-clause-needed g t c =
     let s = c.args.self.now in
-    takes_each_values c.args.dict s.index.now s.width c.args.variable c.args.bound (expression_of c.args.expression.now) c.requires.not_mentioned (algebra_of c.args.inner.now) c.args.graphs.now c.requires.graphs c.extend_with.result
-    c.in_ok-rows.dict c.in_ok-rows.rows c.in_ok-rows.ensures.evaluated c.in_ok-rows.ensures.needed c.extend_with.ensures.needed
+    takes_each_values c.args.dict s.index.now s.width c.args.variable c.args.bound (expression_of c.args.expression.now) c.requires.not_mentioned (algebra_of c.args.inner.now) c.args.graphs.now c.requires.graphs c.extend.result
+    c.in_ok-rows.dict c.in_ok-rows.rows c.in_ok-rows.ensures.evaluated c.in_ok-rows.ensures.needed c.extend.ensures.needed
 
 pub solve_each_union-union_of-requires-clause-known_left : goal.solve_each_union-union_of-requires-clause-known_left
 solve_each_union-union_of-requires-clause-known_left g t c = (rows_kept c.args.dict c.in_ok-right.dict c.in_ok-right.ensures.evaluated.grown c.args.left.rows c.requires.known_left).0
@@ -1439,10 +1331,10 @@ pub solve_each_union-returns-clause-one_worker : goal.solve_each_union-returns-c
 solve_each_union-returns-clause-one_worker g t c = λ _. c.union_of.ensures.memory
 
 pub solve_each_extend-returns-clause-one_worker : goal.solve_each_extend-returns-clause-one_worker
-solve_each_extend-returns-clause-one_worker g t c = c.extend_with.ensures.one_worker
+solve_each_extend-returns-clause-one_worker g t c = c.extend.ensures.one_worker
 
-pub solve_each_extend-extend_with-requires-clause-variable : goal.solve_each_extend-extend_with-requires-clause-variable
-solve_each_extend-extend_with-requires-clause-variable g t c κs within = subst (λ (w : ℕ). c.args.bound < w) (sym c.in_ok-rows.ensures.evaluated.wide) c.requires.bound
+pub solve_each_extend-extend-requires-clause-variable : goal.solve_each_extend-extend-requires-clause-variable
+solve_each_extend-extend-requires-clause-variable g t c κs within = subst (λ (w : ℕ). c.args.bound < w) (sym c.in_ok-rows.ensures.evaluated.wide) c.requires.bound
 
 -- ---- Union, LeftJoin and Minus after the names
 
