@@ -4,7 +4,7 @@ use Rattle.std.specs.Option.{option_map, ForSome}
 use Rattle.std.proofs.lemmas.List.Sorted.{Contains-permutation, IsPermutation-map, IsPermutation-sym}
 use Rattle.std.proofs.lemmas.Result.{IfOk-weaker}
 use Rattle.rdf_core.specs.declared.term.Term.{Term}
-use Rattle.algebra_model.specs.Algebra.{Algebra, Extend, GraphName, each_graph}
+use Rattle.algebra_model.specs.Algebra.{Algebra, Extend, each_graph}
 use Rattle.algebra_model.specs.Bag.{without_repeats}
 use Rattle.algebra_model.specs.Dataset.{names}
 use Rattle.algebra_model.specs.Eval.{eval}
@@ -15,7 +15,7 @@ use Rattle.dict_core.specs.NumQuad.{AreBelow, quads_at}
 use Rattle.dict_core.specs.declared.num_quad.NumQuad.{NumQuad}
 use Rattle.quad_index.specs.Matching.{graph_names}
 use Rattle.row_core.specs.RowList.{RowList}
-use Rattle.sparql_eval.specs.Computed.{InSomeGraph, IsComputed, IsValue, TakesOnly}
+use Rattle.sparql_eval.specs.Computed.{IsComputed, IsValue, TakesOnly}
 use Rattle.sparql_eval.specs.Evaluated.{IsEvaluated, solutions_of}
 use Rattle.sparql_eval.specs.TreeSolutions.{AreGraphs, Needed, NeededIn}
 use Rattle.sparql_eval.proofs.EvaluateSteps.{active_kept, index_kept}

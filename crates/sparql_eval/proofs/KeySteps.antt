@@ -1,5 +1,5 @@
 -- Left joins of rows with key numbers: the pairs that a condition keeps have the same key numbers.
-use Rattle.std.proofs.Common.{◌≡◌, ℕ, zero, suc, ◌+◌, ◌<◌, ◌≤◌, Bool, true, false, cond, not, ◌&&◌, ◌||◌, is_some, List, [], ◌∷◌, ◌++◌, length, map, filter, take, get_or, option_map, nat_eq, Option, None, Some, IsPermutation, refl, sym, ap, ◌∙◌, subst, arith}
+use Rattle.std.proofs.Common.{◌≡◌, ℕ, zero, suc, ◌+◌, ◌<◌, ◌≤◌, Bool, true, false, cond, not, ◌&&◌, ◌||◌, is_some, List, [], ◌∷◌, ◌++◌, length, map, filter, take, get_or, option_map, nat_eq, Option, None, Some, refl, sym, ap, ◌∙◌, subst, arith}
 use Rattle.std.specs.List.{list_all, All}
 use Rattle.std.specs.Option.{option_eq}
 use Rattle.std.proofs.Math.Nat.{mod-lt}

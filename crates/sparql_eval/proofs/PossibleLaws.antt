@@ -5,11 +5,6 @@ use Rattle.std.specs.List.{list_all, list_any}
 use Rattle.std.specs.Option.{option_eq}
 use Rattle.std.proofs.lemmas.Bool.{false≢true, and_parts}
 use Rattle.std.proofs.lemmas.List.Elements.{filter-append}
-use Rattle.rdf_core.specs.declared.term.Term.{Term}
-use Rattle.rdf_core.specs.QuadParts.{QuadParts}
-use Rattle.rdf_core.proofs.TermLaws.{term_eq, term_decides}
-use Rattle.algebra_model.specs.Dataset.{names}
-use Rattle.algebra_model.specs.Eval.{named}
 use Rattle.algebra_model.specs.Operators.{join, merges, left_join, minus, share}
 use Rattle.sparql_eval.specs.Possible.{bind_all, is_named, meets_some}
 use Rattle.algebra_model.specs.Renaming.{Each}

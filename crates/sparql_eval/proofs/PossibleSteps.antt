@@ -1,8 +1,8 @@
 -- Trees that are joined with rows: only the solutions that are compatible with one of the rows are
 -- needed, and of GRAPH with a variable only the graphs that the rows name.
-use Rattle.std.proofs.Common.{◌≡◌, ℕ, zero, suc, ◌+◌, ◌<◌, Bool, true, false, cond, ◌&&◌, ◌||◌, List, [], ◌∷◌, ◌++◌, length, map, filter, flat_map, get_or, slice_get, take, nat_eq, Contains, Option, None, Some, is_some, option_map, Result, IfOk, IsPermutation, refl, sym, ap, ◌∙◌, subst, arith}
+use Rattle.std.proofs.Common.{◌≡◌, ℕ, zero, suc, ◌+◌, ◌<◌, Bool, true, false, cond, ◌&&◌, ◌||◌, List, [], ◌∷◌, ◌++◌, length, map, filter, flat_map, get_or, slice_get, take, nat_eq, Contains, Option, None, Some, is_some, option_map, Result, IfOk, refl, sym, ap, ◌∙◌, subst, arith}
 use Rattle.std.specs.Cmp.{both_ways}
-use Rattle.std.specs.List.{AllByRecursion, IsDistinct, dedup, list_all, list_any}
+use Rattle.std.specs.List.{AllByRecursion, IsDistinct, dedup, list_any}
 use Rattle.std.specs.Option.{option_eq}
 use Rattle.std.proofs.lemmas.Bool.{and_parts, false≢true}
 use Rattle.std.proofs.lemmas.Bool.Decides.{Decides-eqb}
@@ -13,19 +13,17 @@ use Rattle.std.proofs.lemmas.Result.{IfOk-weaker}
 use Rattle.rdf_core.specs.declared.term.Term.{Term}
 use Rattle.rdf_core.proofs.TermLaws.{term_eq, term_decides}
 use Rattle.algebra_model.specs.Algebra.{each_graph}
-use Rattle.algebra_model.specs.Bag.{IsSameBag, without_repeats}
+use Rattle.algebra_model.specs.Bag.{IsSameBag}
 use Rattle.algebra_model.specs.Eval.{eval, named}
-use Rattle.algebra_model.specs.Expression.{holds}
 use Rattle.algebra_model.specs.Laws.{KeepsBagsOfTwo}
 use Rattle.algebra_model.specs.Operators.{join, left_join, minus}
 use Rattle.algebra_model.specs.Renaming.{Each, read_row}
 use Rattle.algebra_model.specs.Solution.{Solution, is_compatible, merge}
 use Rattle.algebra_model.proofs.BagLaws.{same_bag}
 use Rattle.algebra_model.proofs.CongruenceLaws.{filter-IsSameBag}
-use Rattle.dict_core.specs.Dict.{AreDistinct, IsGrown, term_at}
+use Rattle.dict_core.specs.Dict.{AreDistinct, term_at}
 use Rattle.dict_core.specs.NumQuad.{AreBelow, quads_at}
 use Rattle.dict_core.specs.declared.num_quad.NumQuad.{NumQuad}
-use Rattle.quad_index.specs.Matching.{graph_names}
 use Rattle.row_core.specs.RowList.{RowList}
 use Rattle.row_core.proofs.TurnLaws.{take_more_get}
 use Rattle.sparql_algebra.specs.AlgebraOf.{algebra_of}

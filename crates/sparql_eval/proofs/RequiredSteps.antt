@@ -1,5 +1,5 @@
 -- What a condition that is true requires of the terms of two variables.
-use Rattle.std.proofs.Common.{◌≡◌, ℕ, Bool, true, false, List, [], ◌∷◌, ◌++◌, Option, Some, None, get_or, refl, sym, ap, ◌∙◌, subst, Box, Global}
+use Rattle.std.proofs.Common.{◌≡◌, ℕ, Bool, true, false, List, [], ◌∷◌, ◌++◌, Option, Some, None, get_or, refl, sym, ap, ◌∙◌, Box, Global}
 use Rattle.std.proofs.lemmas.Bool.{false≢true}
 use Rattle.rdf_core.specs.declared.term.Term.{Term}
 use Rattle.rdf_core.specs.declared.term.Term.TheVariants.{Blank, Iri, Literal}
@@ -7,9 +7,7 @@ use Rattle.rdf_core.proofs.TermLaws.{term_eq, term_decides}
 use Rattle.algebra_model.specs.BooleanValue.{logical_and}
 use Rattle.algebra_model.specs.Call.{call_value, str, string_term}
 use Rattle.algebra_model.specs.Comparison.{compares, equal, equals}
-use Rattle.algebra_model.specs.Expression.{Expression, both, call, comparison, same_term, variable, holds, is_true, truth_of, boolean_result, val, with_value, with_values}
-use Rattle.algebra_model.specs.Renaming.{Each}
-use Rattle.algebra_model.specs.Solution.{Solution}
+use Rattle.algebra_model.specs.Expression.{Expression, both, call, comparison, same_term, variable, is_true, truth_of, val, with_value, with_values}
 use Rattle.algebra_model.proofs.RangeLaws.{Each-append}
 use Rattle.expression_values.specs.ExpressionOf.{comparison_of, expression_of, expression_step, function_of}
 use Rattle.expression_values.specs.declared.expression.Expr.{Expr}

@@ -1,15 +1,12 @@
 //! Operators below GRAPH with a variable, above a part that does not depend on the active graph. They are
 //! applied once to the rows of all graphs.
-ghost use Rattle.std.specs.Prelude.{◌≡◌, ◌<◌, ◌++◌, false, true, length, nat_eq, IfErr, IfOk};
-ghost use Rattle.rdf_core.specs.Equality.{term_eq};
+ghost use Rattle.std.specs.Prelude.{◌≡◌, ◌<◌, false, true, length, nat_eq, IfErr, IfOk};
 ghost use Rattle.algebra_model.specs.Algebra.{Extend, Filter, is_within};
-ghost use Rattle.algebra_model.specs.Operators.{join};
 ghost use Rattle.dict_core.specs.NumQuad.{AreBelow};
 ghost use Rattle.row_pieces.specs.How.{HasOneWorker};
 ghost use Rattle.row_pieces.specs.declared.fault.EvalFault.TheVariants.{Memory};
 ghost use Rattle.expression_values.specs.ExpressionOf.{expression_of};
 ghost use Rattle.sparql_algebra.specs.AlgebraOf.{algebra_of};
-ghost use Rattle.sparql_eval.specs.Evaluated.{AreKnown, IsEvaluated, solutions_of};
 ghost use Rattle.sparql_eval.specs.Fitting.{IsEvaluatedWhere, fits};
 ghost use Rattle.sparql_eval.specs.Mentions.{mentions};
 ghost use Rattle.sparql_eval.specs.TreeSolutions.{AreGraphs, IsEvaluatedIn, TakesIn, solutions_in};
@@ -58,7 +55,8 @@ impl<'c, 'i, 'e, R: Threads + Wait, G: Gate + Sync> Evaluator<'c, 'i, 'e, R, G> 
     {
         if let Operator::Union { left, right } = inner {
             let (rows, dict) = self.solve_each(dict, variable, graphs, left)?;
-            return self.solve_each_union(dict, variable, graphs, rows, right);
+            let (more, dict) = self.solve_each(dict, variable, graphs, right)?;
+            return union_of(dict, rows, more);
         }
         if let Operator::LeftJoin {
             left,
@@ -80,7 +78,9 @@ impl<'c, 'i, 'e, R: Threads + Wait, G: Gate + Sync> Evaluator<'c, 'i, 'e, R, G> 
         if let Operator::Join { left, right } = inner {
             if is_partly_closed(inner) {
                 let (rows, dict) = self.solve_each(dict, variable, graphs, left)?;
-                return self.solve_each_join(dict, variable, graphs, rows, right);
+                let (others, dict) = self.solve_each(dict, variable, graphs, right)?;
+                // Both sides bind the variable, so only rows of the same graph are joined.
+                return join_of(&self.context, self.state, dict, rows, others);
             }
         }
         self.solve_expression_outward(dict, variable, graphs, inner)
@@ -127,63 +127,6 @@ impl<'c, 'i, 'e, R: Threads + Wait, G: Gate + Sync> Evaluator<'c, 'i, 'e, R, G> 
             }
         }
         self.solve_in_turn(dict, variable, graphs, inner)
-    }
-
-    /// Unites rows with those of a tree in each of some graphs.
-    #[cycle(solve)]
-    fn solve_each_union(
-        &self,
-        dict: Dict,
-        variable: usize,
-        graphs: &[u64],
-        left: Rows,
-        right: &Operator,
-    ) -> Result<(Rows, Dict), EvalFault>
-        requires index { AreBelow (length dict) self.now.index.now }
-        requires variable { variable < self.now.width }
-        requires graphs { AreGraphs dict self.now.index.now graphs.now }
-        requires same_width { left.width ≡ self.now.width }
-        requires known_left { AreKnown dict left }
-        requires within { is_within self.now.width (algebra_of right.now) ≡ true }
-        ensures evaluated { IfOk result (λ r. IsEvaluated dict left.width
-            (solutions_of dict left
-            ++ solutions_in dict self.now.index.now self.now.width variable graphs.now
-            (algebra_of right.now)) r.0 r.1) }
-        ensures needed { IfOk result (λ r. TakesIn dict self.now.index.now
-            self.now.width variable (algebra_of right.now) r.1) }
-        ensures one_worker { HasOneWorker self.now.context.how.now → IfErr result (λ fault. fault ≡ Memory) }
-    {
-        let (right, dict) = self.solve_each(dict, variable, graphs, right)?;
-        union_of(dict, left, right)
-    }
-
-    /// Joins rows, which bind the variable to the names of their graphs, with those of a tree in each of
-    /// these graphs. Only rows of the same graph are joined.
-    #[cycle(solve)]
-    fn solve_each_join(
-        &self,
-        dict: Dict,
-        variable: usize,
-        graphs: &[u64],
-        left: Rows,
-        right: &Operator,
-    ) -> Result<(Rows, Dict), EvalFault>
-        requires index { AreBelow (length dict) self.now.index.now }
-        requires variable { variable < self.now.width }
-        requires graphs { AreGraphs dict self.now.index.now graphs.now }
-        requires same_width { left.width ≡ self.now.width }
-        requires known_left { AreKnown dict left }
-        requires within { is_within self.now.width (algebra_of right.now) ≡ true }
-        ensures evaluated { IfOk result (λ r. IsEvaluated dict left.width
-            (join term_eq (solutions_of dict left)
-            (solutions_in dict self.now.index.now self.now.width variable graphs.now
-            (algebra_of right.now))) r.0 r.1) }
-        ensures needed { IfOk result (λ r. TakesIn dict self.now.index.now
-            self.now.width variable (algebra_of right.now) r.1) }
-        ensures one_worker { HasOneWorker self.now.context.how.now → IfErr result (λ fault. fault ≡ Memory) }
-    {
-        let (right, dict) = self.solve_each(dict, variable, graphs, right)?;
-        join_of(&self.context, self.state, dict, left, right)
     }
 
     /// Filters the rows of a tree in each of some graphs. Joins leave out pairs of rows in which the

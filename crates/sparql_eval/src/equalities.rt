@@ -1,5 +1,5 @@
 //! The equalities that a condition requires, by which rows are paired.
-ghost use Rattle.std.specs.Prelude.{◌≡◌, [], true, IfOk, IfSome, OnOk};
+ghost use Rattle.std.specs.Prelude.{◌≡◌, true, IfOk, IfSome, OnOk};
 ghost use Rattle.rdf_core.specs.declared.term.Term.{Term};
 ghost use Rattle.algebra_model.specs.Call.{str};
 ghost use Rattle.algebra_model.specs.Expression.{Expression, call, holds};

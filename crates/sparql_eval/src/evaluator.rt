@@ -23,6 +23,7 @@ use crate::extensions::extend_with;
 use crate::patterns::pattern_with;
 use crate::projections::project_of;
 use crate::tables::table;
+use crate::unions::union_of;
 use dict_core::Dict;
 use expression_errors::{ErrorCounts, Owner, Place};
 use piece_pool::Gate;
@@ -133,7 +134,8 @@ impl<'c, 'i, 'e, R: Threads + Wait, G: Gate + Sync> Evaluator<'c, 'i, 'e, R, G> 
             }
             Operator::Union { left, right } => {
                 let (left, dict) = self.solve(dict, active, left)?;
-                self.solve_union(dict, active, left, right)
+                let (right, dict) = self.solve(dict, active, right)?;
+                union_of(dict, left, right)
             }
             Operator::Minus { left, right } => {
                 let (left, dict) = self.solve(dict, active, left)?;

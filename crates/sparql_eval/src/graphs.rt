@@ -1,5 +1,5 @@
 //! Named graphs (SPARQL 1.1 Query Language, section 18.6, Graph).
-ghost use Rattle.std.specs.Prelude.{◌≡◌, ◌<◌, ◌++◌, ◌∷◌, [], true, false, Some, None, length, map, nat_eq, replicate, set, slice_get, take, ℕ, IfOk, OnErr, OnOk, MatchOption};
+ghost use Rattle.std.specs.Prelude.{◌≡◌, ◌<◌, ◌++◌, ◌∷◌, [], false, Some, None, length, map, nat_eq, replicate, set, take, ℕ, IfOk, OnErr, OnOk, MatchOption};
 ghost use Rattle.std.specs.List.{list_any};
 ghost use Rattle.rdf_core.specs.Equality.{term_eq};
 ghost use Rattle.algebra_model.specs.Dataset.{names};

@@ -8,6 +8,7 @@ ghost use Rattle.row_pieces.specs.declared.fault.EvalFault.TheVariants.{Memory};
 ghost use Rattle.expression_values.specs.ExpressionOf.{expression_of};
 ghost use Rattle.sparql_eval.specs.Evaluated.{AreKnown, IsEvaluated, solutions_of};
 ghost use Rattle.sparql_eval.specs.Fitting.{IsEvaluatedWhere, Requires, fits};
+ghost use Rattle.sparql_eval.specs.KeyedRows.{with_keys};
 
 use crate::equalities::Equality;
 use crate::keyed_rows::{first_cells, keyed_rows};
@@ -50,10 +51,7 @@ pub(crate) fn left_joined_by_keys<R: Threads + Wait, G: Gate + Sync>(
     let _distinct = dict.len();
     let width = left.width();
     let _same_width = right.width();
-    let left_variables = left_variables(context.alloc, keys)?;
-    let right_variables = right_variables(context.alloc, keys)?;
-    let left = keyed_rows(context.alloc, dict, left, left_variables.as_slice())?;
-    let right = keyed_rows(context.alloc, dict, right, right_variables.as_slice())?;
+    let (left, right) = keyed_sides(context.alloc, dict, left, right, keys)?;
     let test = FirstCondition {
         dict,
         condition: tested.condition,
@@ -94,10 +92,7 @@ pub(crate) fn joined_by_keys<R: Threads + Wait, G: Gate + Sync>(
     let _distinct = dict.len();
     let width = left.width();
     let _same_width = right.width();
-    let left_variables = left_variables(context.alloc, keys)?;
-    let right_variables = right_variables(context.alloc, keys)?;
-    let left = keyed_rows(context.alloc, dict, left, left_variables.as_slice())?;
-    let right = keyed_rows(context.alloc, dict, right, right_variables.as_slice())?;
+    let (left, right) = keyed_sides(context.alloc, dict, left, right, keys)?;
     let joined = row_join::join(
         context.rt,
         context.alloc,
@@ -111,26 +106,42 @@ pub(crate) fn joined_by_keys<R: Threads + Wait, G: Gate + Sync>(
     Ok(made)
 }
 
-/// Returns the variables of the left side.
-fn left_variables(alloc: Global, keys: &[Equality]) -> Result<Vec<usize>, AllocError>
-    ensures variables { IfOk result (λ made. made.items ≡ map (λ key. key.left.variable) keys.now) }
+/// Returns the rows of both sides, each followed by the key numbers of the terms of its side's variables.
+fn keyed_sides(
+    alloc: Global,
+    dict: &Dict,
+    left: &Rows,
+    right: &Rows,
+    keys: &[Equality],
+) -> Result<(Rows, Rows), AllocError>
+    requires same_width { left.now.width ≡ right.now.width }
+    requires known_left { AreKnown dict.now left.now }
+    requires known_right { AreKnown dict.now right.now }
+    ensures same_width { IfOk result (λ made. made.0.width ≡ made.1.width) }
+    ensures wide { IfOk result (λ made. left.now.width ≤ made.0.width) }
+    ensures left { IfOk result (λ made. made.0.rows
+        ≡ map (with_keys dict.now (map (λ key. key.left.variable) keys.now)) left.now.rows) }
+    ensures right { IfOk result (λ made. made.1.rows
+        ≡ map (with_keys dict.now (map (λ key. key.right.variable) keys.now)) right.now.rows) }
 {
-    let mut made = Vec::new(alloc);
-    for i in 0..keys.len() {
-        made.push(keys[i].left.variable)?;
-    }
-    Ok(made)
+    let (left_variables, right_variables) = key_variables(alloc, keys)?;
+    let left = keyed_rows(alloc, dict, left, left_variables.as_slice())?;
+    let right = keyed_rows(alloc, dict, right, right_variables.as_slice())?;
+    Ok((left, right))
 }
 
-/// Returns the variables of the right side.
-fn right_variables(alloc: Global, keys: &[Equality]) -> Result<Vec<usize>, AllocError>
-    ensures variables { IfOk result (λ made. made.items ≡ map (λ key. key.right.variable) keys.now) }
+/// Returns the variables of the left side and those of the right side.
+fn key_variables(alloc: Global, keys: &[Equality]) -> Result<(Vec<usize>, Vec<usize>), AllocError>
+    ensures left { IfOk result (λ made. made.0.items ≡ map (λ key. key.left.variable) keys.now) }
+    ensures right { IfOk result (λ made. made.1.items ≡ map (λ key. key.right.variable) keys.now) }
 {
-    let mut made = Vec::new(alloc);
+    let mut lefts = Vec::new(alloc);
+    let mut rights = Vec::new(alloc);
     for i in 0..keys.len() {
-        made.push(keys[i].right.variable)?;
+        lefts.push(keys[i].left.variable)?;
+        rights.push(keys[i].right.variable)?;
     }
-    Ok(made)
+    Ok((lefts, rights))
 }
 
 /// The condition of a left join, which is tested on the first cells of a row.

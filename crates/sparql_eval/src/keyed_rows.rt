@@ -1,5 +1,5 @@
 //! Rows with further cells, by which a join finds pairs of rows with equal terms.
-ghost use Rattle.std.specs.Prelude.{◌≡◌, ◌+◌, ◌<◌, ◌≤◌, ◌∷◌, [], ℕ, Bool, length, map, option_map, take, IfOk, OnOk};
+ghost use Rattle.std.specs.Prelude.{◌≡◌, ◌+◌, ◌<◌, ◌≤◌, ◌∷◌, [], Bool, length, map, option_map, take, IfOk, OnOk};
 ghost use Rattle.rdf_core.specs.declared.term.Term.{Term};
 ghost use Rattle.algebra_model.specs.Solution.{Solution};
 ghost use Rattle.sparql_eval.specs.Evaluated.{AreKnown};

@@ -23,7 +23,7 @@ pub(crate) const PAIRS_AT_LEAST: usize = 100_000;
 const PAIRS_FOR_A_VALUE: usize = 1000;
 
 /// A side of a join.
-#[derive(Clone, Copy, PartialEq, Eq)]
+#[derive(Clone, Copy)]
 pub(crate) enum Side {
     Left,
     Right,

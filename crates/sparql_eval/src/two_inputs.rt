@@ -1,6 +1,6 @@
 //! Operators with two inputs. The rows of the left input are there already, and the tree of the right one
 //! is evaluated here.
-ghost use Rattle.std.specs.Prelude.{◌≡◌, ◌<◌, ◌++◌, true, length, IfErr, IfOk};
+ghost use Rattle.std.specs.Prelude.{◌≡◌, ◌<◌, true, length, IfErr, IfOk};
 ghost use Rattle.std.specs.Option.{ForSome};
 ghost use Rattle.rdf_core.specs.Equality.{term_eq};
 ghost use Rattle.algebra_model.specs.Algebra.{is_within};
@@ -17,7 +17,6 @@ ghost use Rattle.sparql_eval.specs.TreeSolutions.{Needed, tree_solutions};
 
 use crate::evaluator::Evaluator;
 use crate::joins::{join_of, left_join_with, minus_with};
-use crate::unions::union_of;
 use dict_core::Dict;
 use expression_errors::Owner;
 use piece_pool::Gate;
@@ -86,31 +85,6 @@ impl<'c, 'i, 'e, R: Threads + Wait, G: Gate + Sync> Evaluator<'c, 'i, 'e, R, G> 
             condition,
             place,
         )
-    }
-
-    /// Unites rows with the solutions of a tree.
-    #[cycle(solve)]
-    pub(crate) fn solve_union(
-        &self,
-        dict: Dict,
-        active: Option<u64>,
-        left: Rows,
-        right: &Operator,
-    ) -> Result<(Rows, Dict), EvalFault>
-        requires index { AreBelow (length dict) self.now.index.now }
-        requires active { ForSome active (λ g. g < length dict) }
-        requires same_width { left.width ≡ self.now.width }
-        requires known_left { AreKnown dict left }
-        requires within { is_within self.now.width (algebra_of right.now) ≡ true }
-        ensures evaluated { IfOk result (λ r. IsEvaluated dict left.width
-            (solutions_of dict left
-            ++ tree_solutions dict self.now.index.now self.now.width active right.now) r.0 r.1) }
-        ensures needed { IfOk result (λ r. TakesOnly (Needed dict self.now.index.now self.now.width active
-            (algebra_of right.now)) dict r.1) }
-        ensures one_worker { HasOneWorker self.now.context.how.now → IfErr result (λ fault. fault ≡ Memory) }
-    {
-        let (right, dict) = self.solve(dict, active, right)?;
-        union_of(dict, left, right)
     }
 
     /// Applies Minus to rows and the solutions of a tree.

@@ -1,4 +1,4 @@
-use Rattle.std.proofs.Common.{◌≡◌, List, sym, subst}
+use Rattle.std.proofs.Common.{List, sym, subst}
 use Rattle.algebra_model.specs.Expression.{holds}
 use Rattle.expression_values.specs.ExpressionOf.{expression_of}
 use Rattle.sparql_eval.specs.Fitting.{Requires, fits}

@@ -1,9 +1,8 @@
-use Rattle.std.proofs.Common.{◌≡◌, ℕ, List, map, length, nat_eq, sym, ap, ◌∙◌, subst}
+use Rattle.std.proofs.Common.{◌≡◌, ℕ, List, length, nat_eq, sym, ◌∙◌, subst}
 use Rattle.algebra_model.specs.Bag.{IsSameBag}
 use Rattle.algebra_model.specs.Operators.{join}
 use Rattle.algebra_model.specs.Renaming.{Each}
 use Rattle.algebra_model.specs.Solution.{Solution}
-use Rattle.sparql_eval.specs.KeyedRows.{with_keys}
 use Rattle.sparql_eval.proofs.FittingSteps.{joined_by_keys}
 use Rattle.sparql_eval.proofs.KeySteps.{each_of_all}
 use Rattle.sparql_eval.proofs.keyed_joins.joined_by_keys.Goals as goal
@@ -15,14 +14,10 @@ returns-clause-evaluated g c =
     let L = c.args.left.now.rows in
     let R = c.args.right.now.rows in
     let w = c.width-width.result in
-    let lefts = c.as_slice.ensures.value ∙ c.in_ok-left_variables.ensures.variables in
-    let rights = c.as_slice-2.ensures.value ∙ c.in_ok-right_variables.ensures.variables in
-    let left_is = c.in_ok-left.ensures.rows ∙ ap (λ (vs : List ℕ). map (with_keys terms vs) L) lefts in
-    let right_is = c.in_ok-right.ensures.rows ∙ ap (λ (vs : List ℕ). map (with_keys terms vs) R) rights in
     let wideL : Each (λ (μ : Solution ℕ). length μ ≡ w) L =
     each_of_all (λ (μ : Solution ℕ). length μ ≡ w) L (λ k d low. c.width-width.ensures.wide k d low ∙ sym c.width-width.ensures.value) in
     let wideR : Each (λ (μ : Solution ℕ). length μ ≡ w) R =
     each_of_all (λ (μ : Solution ℕ). length μ ≡ w) R (λ k d low. c.width-same_width.ensures.wide k d low ∙ sym c.requires.same_width ∙ sym c.width-width.ensures.value) in
     joined_by_keys terms c.len-distinct.ensures.distinct pairs w c.args.left.now c.args.right.now c.in_ok-made.made c.requires.known_left c.requires.known_right wideL wideR c.in_ok-joined.joined.rows
-    (subst (λ (B : List (Solution ℕ)). IsSameBag c.in_ok-joined.joined.rows B) (λ i. join nat_eq (left_is i) (right_is i)) c.in_ok-joined.ensures.rows)
+    (subst (λ (B : List (Solution ℕ)). IsSameBag c.in_ok-joined.joined.rows B) (λ i. join nat_eq (c.in_ok-left.ensures.left i) (c.in_ok-left.ensures.right i)) c.in_ok-joined.ensures.rows)
     (c.in_ok-made.ensures.width ∙ c.width-width.ensures.value) c.in_ok-made.ensures.rows

@@ -1,4 +1,4 @@
-use Rattle.std.proofs.Common.{◌≡◌, ℕ, List, nat_eq, sym, ap, ◌∙◌, subst}
+use Rattle.std.proofs.Common.{ℕ, List, nat_eq, sym, ap, ◌∙◌, subst}
 use Rattle.std.specs.List.{dedup, list_any}
 use Rattle.std.specs.List.Sorted.{IsStrictlyIncreasing}
 use Rattle.std.proofs.lemmas.List.Filters.{dedup_is}

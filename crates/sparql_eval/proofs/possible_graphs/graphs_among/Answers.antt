@@ -3,7 +3,6 @@ use Rattle.std.specs.List.{list_any}
 use Rattle.std.proofs.lemmas.List.{append-nil}
 use Rattle.std.proofs.lemmas.List.Elements.{filter_more}
 use Rattle.sparql_eval.proofs.GraphSteps.{search_finds}
-use Rattle.sparql_eval.proofs.ReadingLaws.{all_taken}
 use Rattle.sparql_eval.proofs.possible_graphs.graphs_among.Goals as goal
 use Rattle.sparql_eval.proofs.possible_graphs.graphs_among.Goals.{then-is_ok+in_ok-push, else-is_ok}
 

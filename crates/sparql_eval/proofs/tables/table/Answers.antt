@@ -4,7 +4,7 @@ use Rattle.algebra_model.specs.Operators.{table}
 use Rattle.sparql_eval.specs.Computed.{IsCell, TakesOnly}
 use Rattle.sparql_eval.proofs.ReturnSteps.{on_ok_so}
 use Rattle.row_pieces.specs.declared.fault.EvalFault.TheVariants.{Memory}
-use Rattle.sparql_eval.specs.Evaluated.{IsEvaluated, solutions_of}
+use Rattle.sparql_eval.specs.Evaluated.{IsEvaluated}
 use Rattle.sparql_eval.proofs.ReturnSteps.{returned, faulted}
 use Rattle.sparql_eval.proofs.tables.table.Goals as goal
 

@@ -1,4 +1,3 @@
-use Rattle.std.proofs.Common.{◌≡◌}
 use Rattle.sparql_eval.proofs.UnionSteps.{united}
 use Rattle.sparql_eval.proofs.unions.union_of.Goals as goal
 

@@ -35,7 +35,7 @@ use Rattle.sparql_eval.proofs.FittingSteps.{where_all, where_any, where_any_ok, 
 use Rattle.sparql_eval.proofs.OutwardSteps.{apart_parts, extend_each, filter_each, graphs_kept, join_each, join_each_fitting, join_left_where, join_right_where, left_join_each, minus_each, takes_each_values, takes_pair, union_each}
 use Rattle.sparql_eval.proofs.PossibleSteps.{after_possible, fits_may_join, join_drops, left_join_drops, meets_may_join, minus_drops, next_left, next_right, possible_are, possible_suffice, where_possible}
 use Rattle.sparql_eval.proofs.ReadingLaws.{Known, all_taken, grown_itself, grown_twice, read_by, rows_kept}
-use Rattle.sparql_eval.proofs.EvaluateSteps.{active_kept, after_left, after_one, after_right, all_below, as_whole, index_kept, tree_kept, join_keeps, left_join_keeps, union_keeps, minus_keeps, filter_keeps, extend_keeps, project_keeps, distinct_keeps}
+use Rattle.sparql_eval.proofs.EvaluateSteps.{active_kept, after_left, after_one, after_right, all_below, as_whole, index_kept, tree_kept, join_keeps, left_join_keeps, union_keeps, minus_keeps, extend_keeps, project_keeps, distinct_keeps}
 use Rattle.sparql_eval.proofs.TreeSteps.{distinct_denotes, distinct_tree, extend_denotes, extend_tree, filter_denotes, filter_tree, graph_denotes, graph_tree, join_denotes, join_tree, left_join_denotes, left_join_tree, minus_denotes, minus_tree, project_denotes, project_tree, table_denotes, table_tree, union_denotes, union_tree}
 use Rattle.sparql_eval.proofs.ComputedSteps.{all_graphs, takes_as, takes_both, takes_in_each, takes_nothing, takes_still, takes_values}
 use Rattle.sparql_eval.proofs.TakingLaws.{takes_none}
@@ -107,31 +107,32 @@ solve-returns-in_ok-left-in-LeftJoin-clause-needed g t c =
 
 -- ---- Union
 
-pub solve-solve_union-requires-clause-index : goal.solve-solve_union-requires-clause-index
-solve-solve_union-requires-clause-index g t c κs within = (index_kept c.args.dict c.in_ok-left-in-Union.dict c.in_ok-left-in-Union.ensures.evaluated.grown c.args.self.now.index.now c.requires.index).0
+pub solve-solve-requires-in-Union-2-clause-index : goal.solve-solve-requires-in-Union-2-clause-index
+solve-solve-requires-in-Union-2-clause-index g t c κs within = (index_kept c.args.dict c.in_ok-left-in-Union.dict c.in_ok-left-in-Union.ensures.evaluated.grown c.args.self.now.index.now c.requires.index).0
 
-pub solve-solve_union-requires-clause-active : goal.solve-solve_union-requires-clause-active
-solve-solve_union-requires-clause-active g t c κs within = (active_kept c.args.dict c.in_ok-left-in-Union.dict c.in_ok-left-in-Union.ensures.evaluated.grown c.args.active c.requires.active).0
+pub solve-solve-requires-in-Union-2-clause-active : goal.solve-solve-requires-in-Union-2-clause-active
+solve-solve-requires-in-Union-2-clause-active g t c κs within = (active_kept c.args.dict c.in_ok-left-in-Union.dict c.in_ok-left-in-Union.ensures.evaluated.grown c.args.active c.requires.active).0
 
-pub solve-returns-in_ok-left-in-Union-clause-evaluated : goal.solve-returns-in_ok-left-in-Union-clause-evaluated
-solve-returns-in_ok-left-in-Union-clause-evaluated g t c =
+pub solve-returns-in_ok-right-in-Union-clause-evaluated : goal.solve-returns-in_ok-right-in-Union-clause-evaluated
+solve-returns-in_ok-right-in-Union-clause-evaluated g t c =
     let s = c.args.self.now in
     let S : Operator → List (Solution Term) = λ tree. tree_solutions c.args.dict s.index.now s.width c.args.active tree in
     let h = c.in_ok-left-in-Union.ensures.evaluated in
-    as_whole c.args.dict s.width c.solve_union.result ((S c.deref-in-Union.result.now) ++ (S c.deref-in-Union-2.result.now)) (S c.args.tree.now)
+    as_whole c.args.dict s.width c.union_of.result ((S c.deref-in-Union.result.now) ++ (S c.deref-in-Union-2.result.now)) (S c.args.tree.now)
     (ap S c.in-Union.is ∙ union_tree c.args.dict s.index.now s.width c.args.active c.in-Union.left c.in-Union.right ∙ (λ i. (S ((sym c.deref-in-Union.ensures) i)) ++ (S ((sym c.deref-in-Union-2.ensures) i))))
-    (after_left c.args.dict c.in_ok-left-in-Union.dict s.width c.solve_union.result (λ A B. A ++ B) (union_keeps) (S c.deref-in-Union.result.now) (S c.deref-in-Union-2.result.now) (tree_solutions c.in_ok-left-in-Union.dict s.index.now s.width c.args.active c.deref-in-Union-2.result.now)
+    (after_left c.args.dict c.in_ok-left-in-Union.dict s.width c.union_of.result (λ A B. A ++ B) (union_keeps) (S c.deref-in-Union.result.now) (S c.deref-in-Union-2.result.now) (tree_solutions c.in_ok-left-in-Union.dict s.index.now s.width c.args.active c.deref-in-Union-2.result.now)
     (tree_kept c.args.dict c.in_ok-left-in-Union.dict h.grown s.index.now s.width c.args.active c.deref-in-Union-2.result.now c.requires.index c.requires.active)
-    c.in_ok-left-in-Union.left h c.solve_union.ensures.evaluated)
+    c.in_ok-left-in-Union.left h
+    (after_right c.in_ok-left-in-Union.dict c.in_ok-right-in-Union.dict s.width c.union_of.result (λ A B. A ++ B) (union_keeps) (tree_solutions c.in_ok-left-in-Union.dict s.index.now s.width c.args.active c.deref-in-Union-2.result.now) c.in_ok-left-in-Union.left c.in_ok-right-in-Union.right h.wide h.known c.in_ok-right-in-Union.ensures.evaluated c.union_of.ensures.evaluated))
 
-pub solve-returns-in_ok-left-in-Union-clause-needed : goal.solve-returns-in_ok-left-in-Union-clause-needed
-solve-returns-in_ok-left-in-Union-clause-needed g t c =
+pub solve-returns-in_ok-right-in-Union-clause-needed : goal.solve-returns-in_ok-right-in-Union-clause-needed
+solve-returns-in_ok-right-in-Union-clause-needed g t c =
     let s = c.args.self.now in
     let L = algebra_of c.deref-in-Union.result.now in
     let R = algebra_of c.deref-in-Union-2.result.now in
-    takes_both c.args.dict c.in_ok-left-in-Union.dict c.in_ok-left-in-Union.ensures.evaluated.grown s.index.now c.requires.index s.width c.args.active c.requires.active c.solve_union.result
+    takes_both c.args.dict c.in_ok-left-in-Union.dict c.in_ok-left-in-Union.ensures.evaluated.grown s.index.now c.requires.index s.width c.args.active c.requires.active c.union_of.result
     L R (algebra_of c.args.tree.now) (algebra.Union L R) (ap algebra_of c.in-Union.is ∙ union_denotes c.in-Union.left c.in-Union.right ∙ (λ i. algebra.Union (algebra_of ((sym c.deref-in-Union.ensures) i)) (algebra_of ((sym c.deref-in-Union-2.ensures) i)))) (λ x m. m)
-    c.in_ok-left-in-Union.ensures.needed c.solve_union.ensures.needed
+    c.in_ok-left-in-Union.ensures.needed (takes_still (Needed c.in_ok-left-in-Union.dict s.index.now s.width c.args.active R) c.in_ok-left-in-Union.dict c.in_ok-right-in-Union.dict c.union_of.result c.in_ok-right-in-Union.ensures.needed c.union_of.ensures.same_dict)
 
 -- ---- Minus
 
@@ -262,19 +263,8 @@ solve_left_join-returns-clause-needed g t c =
     let s = c.args.self.now in
     takes_still (Needed c.args.dict s.index.now s.width c.args.active (algebra_of c.args.right.now)) c.args.dict c.in_ok-right.dict c.left_join_with.result c.in_ok-right.ensures.needed c.left_join_with.ensures.same_dict
 
-pub solve_union-union_of-requires-clause-known_left : goal.solve_union-union_of-requires-clause-known_left
-solve_union-union_of-requires-clause-known_left g t c = (rows_kept c.args.dict c.in_ok-right.dict c.in_ok-right.ensures.evaluated.grown c.args.left.rows c.requires.known_left).0
-
-pub solve_union-returns-clause-evaluated : goal.solve_union-returns-clause-evaluated
-solve_union-returns-clause-evaluated g t c =
-    let s = c.args.self.now in
-    let S : Operator → List (Solution Term) = λ tree. tree_solutions c.args.dict s.index.now s.width c.args.active tree in
-    after_right c.args.dict c.in_ok-right.dict s.width c.union_of.result (λ A B. A ++ B) (union_keeps) (S c.args.right.now) c.args.left c.in_ok-right.right c.requires.same_width c.requires.known_left c.in_ok-right.ensures.evaluated c.union_of.ensures.evaluated
-
-pub solve_union-returns-clause-needed : goal.solve_union-returns-clause-needed
-solve_union-returns-clause-needed g t c =
-    let s = c.args.self.now in
-    takes_still (Needed c.args.dict s.index.now s.width c.args.active (algebra_of c.args.right.now)) c.args.dict c.in_ok-right.dict c.union_of.result c.in_ok-right.ensures.needed c.union_of.ensures.same_dict
+pub solve-union_of-requires-clause-known_left : goal.solve-union_of-requires-clause-known_left
+solve-union_of-requires-clause-known_left g t c = (rows_kept c.in_ok-left-in-Union.dict c.in_ok-right-in-Union.dict c.in_ok-right-in-Union.ensures.evaluated.grown c.in_ok-left-in-Union.left.rows c.in_ok-left-in-Union.ensures.evaluated.known).0
 
 pub solve_minus-minus_with-requires-clause-known_left : goal.solve_minus-minus_with-requires-clause-known_left
 solve_minus-minus_with-requires-clause-known_left g t c κs within = (rows_kept c.args.dict c.in_ok-right.dict c.in_ok-right.ensures.evaluated.grown c.args.left.rows c.requires.known_left).0
@@ -612,15 +602,6 @@ solve_left_join-solve_to_join-requires-clause-active g t c κs within = c.requir
 pub solve_left_join-solve_to_join-requires-clause-within : goal.solve_left_join-solve_to_join-requires-clause-within
 solve_left_join-solve_to_join-requires-clause-within g t c κs within = c.requires.within
 
-pub solve_union-solve-requires-clause-index : goal.solve_union-solve-requires-clause-index
-solve_union-solve-requires-clause-index g t c κs within = c.requires.index
-
-pub solve_union-solve-requires-clause-active : goal.solve_union-solve-requires-clause-active
-solve_union-solve-requires-clause-active g t c κs within = c.requires.active
-
-pub solve_union-solve-requires-clause-within : goal.solve_union-solve-requires-clause-within
-solve_union-solve-requires-clause-within g t c κs within = c.requires.within
-
 pub solve_minus-solve_to_join-requires-clause-index : goal.solve_minus-solve_to_join-requires-clause-index
 solve_minus-solve_to_join-requires-clause-index g t c κs within = c.requires.index
 
@@ -683,18 +664,12 @@ pub solve-solve-requires-in-Union-clause-within : goal.solve-solve-requires-in-U
 solve-solve-requires-in-Union-clause-within g t c κs within =
     subst (λ (T : Operator). is_within c.args.self.now.width (algebra_of T) ≡ true) (sym c.deref-in-Union.ensures) (union_within c.args.self.now.width c.in-Union.left c.in-Union.right c.args.tree.now c.in-Union.is c.requires.within).0
 
-pub solve-solve_union-requires-clause-within : goal.solve-solve_union-requires-clause-within
-solve-solve_union-requires-clause-within g t c κs within =
+pub solve-solve-requires-in-Union-2-clause-within : goal.solve-solve-requires-in-Union-2-clause-within
+solve-solve-requires-in-Union-2-clause-within g t c κs within =
     subst (λ (T : Operator). is_within c.args.self.now.width (algebra_of T) ≡ true) (sym c.deref-in-Union-2.ensures) (union_within c.args.self.now.width c.in-Union.left c.in-Union.right c.args.tree.now c.in-Union.is c.requires.within).1
 
-pub solve-solve_union-requires-clause-same_width : goal.solve-solve_union-requires-clause-same_width
-solve-solve_union-requires-clause-same_width g t c κs within = c.in_ok-left-in-Union.ensures.evaluated.wide
-
-pub solve-solve_union-requires-clause-known_left : goal.solve-solve_union-requires-clause-known_left
-solve-solve_union-requires-clause-known_left g t c κs within = c.in_ok-left-in-Union.ensures.evaluated.known
-
-pub solve-returns-in_ok-left-in-Union-clause-one_worker : goal.solve-returns-in_ok-left-in-Union-clause-one_worker
-solve-returns-in_ok-left-in-Union-clause-one_worker g t c = c.solve_union.ensures.one_worker
+pub solve-returns-in_ok-right-in-Union-clause-one_worker : goal.solve-returns-in_ok-right-in-Union-clause-one_worker
+solve-returns-in_ok-right-in-Union-clause-one_worker g t c = λ _. c.union_of.ensures.memory
 
 pub solve-solve-requires-in-Minus-clause-within : goal.solve-solve-requires-in-Minus-clause-within
 solve-solve-requires-in-Minus-clause-within g t c κs within =
@@ -785,14 +760,11 @@ solve_minus-minus_with-requires-clause-known_right g t c κs within = c.in_ok-ri
 pub solve_minus-returns-clause-one_worker : goal.solve_minus-returns-clause-one_worker
 solve_minus-returns-clause-one_worker g t c = c.minus_with.ensures.one_worker
 
-pub solve_union-union_of-requires-clause-same_width : goal.solve_union-union_of-requires-clause-same_width
-solve_union-union_of-requires-clause-same_width g t c = c.requires.same_width ∙ sym c.in_ok-right.ensures.evaluated.wide
+pub solve-union_of-requires-clause-same_width : goal.solve-union_of-requires-clause-same_width
+solve-union_of-requires-clause-same_width g t c = c.in_ok-left-in-Union.ensures.evaluated.wide ∙ sym c.in_ok-right-in-Union.ensures.evaluated.wide
 
-pub solve_union-union_of-requires-clause-known_right : goal.solve_union-union_of-requires-clause-known_right
-solve_union-union_of-requires-clause-known_right g t c = c.in_ok-right.ensures.evaluated.known
-
-pub solve_union-returns-clause-one_worker : goal.solve_union-returns-clause-one_worker
-solve_union-returns-clause-one_worker g t c = λ _. c.union_of.ensures.memory
+pub solve-union_of-requires-clause-known_right : goal.solve-union_of-requires-clause-known_right
+solve-union_of-requires-clause-known_right g t c = c.in_ok-right-in-Union.ensures.evaluated.known
 
 pub solve-returns-in-Table-clause-one_worker : goal.solve-returns-in-Table-clause-one_worker
 solve-returns-in-Table-clause-one_worker g t c = λ _. c.table.ensures.memory
@@ -1308,27 +1280,14 @@ solve_each_extend-returns-clause-needed g t c =
     takes_each_values c.args.dict s.index.now s.width c.args.variable c.args.bound (expression_of c.args.expression.now) c.requires.not_mentioned (algebra_of c.args.inner.now) c.args.graphs.now c.requires.graphs c.extend.result
     c.in_ok-rows.dict c.in_ok-rows.rows c.in_ok-rows.ensures.evaluated c.in_ok-rows.ensures.needed c.extend.ensures.needed
 
-pub solve_each_union-union_of-requires-clause-known_left : goal.solve_each_union-union_of-requires-clause-known_left
-solve_each_union-union_of-requires-clause-known_left g t c = (rows_kept c.args.dict c.in_ok-right.dict c.in_ok-right.ensures.evaluated.grown c.args.left.rows c.requires.known_left).0
+pub solve_outward-union_of-requires-clause-known_left : goal.solve_outward-union_of-requires-clause-known_left
+solve_outward-union_of-requires-clause-known_left g t c = (rows_kept c.in_ok-rows.dict c.in_ok-more.dict c.in_ok-more.ensures.evaluated.grown c.in_ok-rows.rows.rows c.in_ok-rows.ensures.evaluated.known).0
 
-pub solve_each_union-union_of-requires-clause-same_width : goal.solve_each_union-union_of-requires-clause-same_width
-solve_each_union-union_of-requires-clause-same_width g t c = c.requires.same_width ∙ sym c.in_ok-right.ensures.evaluated.wide
+pub solve_outward-union_of-requires-clause-same_width : goal.solve_outward-union_of-requires-clause-same_width
+solve_outward-union_of-requires-clause-same_width g t c = c.in_ok-rows.ensures.evaluated.wide ∙ sym c.in_ok-more.ensures.evaluated.wide
 
-pub solve_each_union-union_of-requires-clause-known_right : goal.solve_each_union-union_of-requires-clause-known_right
-solve_each_union-union_of-requires-clause-known_right g t c = c.in_ok-right.ensures.evaluated.known
-
-pub solve_each_union-returns-clause-evaluated : goal.solve_each_union-returns-clause-evaluated
-solve_each_union-returns-clause-evaluated g t c =
-    let s = c.args.self.now in
-    after_right c.args.dict c.in_ok-right.dict s.width c.union_of.result (λ A B. A ++ B) (union_keeps) (solutions_in c.args.dict s.index.now s.width c.args.variable c.args.graphs.now (algebra_of c.args.right.now)) c.args.left c.in_ok-right.right c.requires.same_width c.requires.known_left c.in_ok-right.ensures.evaluated c.union_of.ensures.evaluated
-
-pub solve_each_union-returns-clause-needed : goal.solve_each_union-returns-clause-needed
-solve_each_union-returns-clause-needed g t c =
-    let s = c.args.self.now in
-    takes_still (NeededIn c.args.dict s.index.now s.width (each_graph c.args.variable) (algebra_of c.args.right.now)) c.args.dict c.in_ok-right.dict c.union_of.result c.in_ok-right.ensures.needed c.union_of.ensures.same_dict
-
-pub solve_each_union-returns-clause-one_worker : goal.solve_each_union-returns-clause-one_worker
-solve_each_union-returns-clause-one_worker g t c = λ _. c.union_of.ensures.memory
+pub solve_outward-union_of-requires-clause-known_right : goal.solve_outward-union_of-requires-clause-known_right
+solve_outward-union_of-requires-clause-known_right g t c = c.in_ok-more.ensures.evaluated.known
 
 pub solve_each_extend-returns-clause-one_worker : goal.solve_each_extend-returns-clause-one_worker
 solve_each_extend-returns-clause-one_worker g t c = c.extend.ensures.one_worker
@@ -1338,11 +1297,11 @@ solve_each_extend-extend-requires-clause-variable g t c κs within = subst (λ (
 
 -- ---- Union, LeftJoin and Minus after the names
 
-pub solve_outward-solve_each_union-requires-clause-index : goal.solve_outward-solve_each_union-requires-clause-index
-solve_outward-solve_each_union-requires-clause-index g t c κs within = (index_kept c.args.dict c.in_ok-rows.dict c.in_ok-rows.ensures.evaluated.grown c.args.self.now.index.now c.requires.index).0
+pub solve_outward-solve_each-requires-in-Union-clause-index : goal.solve_outward-solve_each-requires-in-Union-clause-index
+solve_outward-solve_each-requires-in-Union-clause-index g t c κs within = (index_kept c.args.dict c.in_ok-rows.dict c.in_ok-rows.ensures.evaluated.grown c.args.self.now.index.now c.requires.index).0
 
-pub solve_outward-solve_each_union-requires-clause-graphs : goal.solve_outward-solve_each_union-requires-clause-graphs
-solve_outward-solve_each_union-requires-clause-graphs g t c κs within =
+pub solve_outward-solve_each-requires-in-Union-clause-graphs : goal.solve_outward-solve_each-requires-in-Union-clause-graphs
+solve_outward-solve_each-requires-in-Union-clause-graphs g t c κs within =
     graphs_kept c.args.dict c.in_ok-rows.dict c.in_ok-rows.ensures.evaluated.grown c.args.self.now.index.now c.requires.index c.args.graphs.now c.requires.graphs
 
 pub solve_outward-returns-in-Union-clause-evaluated : goal.solve_outward-returns-in-Union-clause-evaluated
@@ -1356,8 +1315,9 @@ solve_outward-returns-in-Union-clause-evaluated g t c =
     let R = algebra_of c.deref-in-Union.result.now in
     let is : algebra_of c.args.inner.now ≡ algebra.Union L R =
     ap algebra_of c.in-Union.is ∙ union_denotes c.in-Union.left c.in-Union.right ∙ (λ i. algebra.Union (algebra_of ((sym c.deref.ensures) i)) (algebra_of ((sym c.deref-in-Union.ensures) i))) in
-    as_whole terms s.width c.solve_each_union.result (whole (algebra.Union L R)) (whole (algebra_of c.args.inner.now)) (ap whole is)
-    (union_each terms c.in_ok-rows.dict s.index.now c.requires.index s.width v graphs c.requires.graphs c.solve_each_union.result L R c.in_ok-rows.rows c.in_ok-rows.ensures.evaluated c.solve_each_union.ensures.evaluated)
+    as_whole terms s.width c.union_of.result (whole (algebra.Union L R)) (whole (algebra_of c.args.inner.now)) (ap whole is)
+    (union_each terms c.in_ok-rows.dict s.index.now c.requires.index s.width v graphs c.requires.graphs c.union_of.result L R c.in_ok-rows.rows c.in_ok-rows.ensures.evaluated
+    (after_right c.in_ok-rows.dict c.in_ok-more.dict s.width c.union_of.result (λ A B. A ++ B) union_keeps (solutions_in c.in_ok-rows.dict s.index.now s.width v graphs R) c.in_ok-rows.rows c.in_ok-more.more c.in_ok-rows.ensures.evaluated.wide c.in_ok-rows.ensures.evaluated.known c.in_ok-more.ensures.evaluated c.union_of.ensures.evaluated))
 
 pub solve_outward-returns-in-Union-clause-needed : goal.solve_outward-returns-in-Union-clause-needed
 solve_outward-returns-in-Union-clause-needed g t c =
@@ -1370,8 +1330,12 @@ solve_outward-returns-in-Union-clause-needed g t c =
     let R = algebra_of c.deref-in-Union.result.now in
     let is : algebra_of c.args.inner.now ≡ algebra.Union L R =
     ap algebra_of c.in-Union.is ∙ union_denotes c.in-Union.left c.in-Union.right ∙ (λ i. algebra.Union (algebra_of ((sym c.deref.ensures) i)) (algebra_of ((sym c.deref-in-Union.ensures) i))) in
-    takes_as_each terms s.index.now s.width v c.solve_each_union.result (algebra_of c.args.inner.now) (algebra.Union L R) is
-    (takes_pair terms c.in_ok-rows.dict s.index.now c.requires.index s.width v graphs c.requires.graphs c.solve_each_union.result L R c.in_ok-rows.ensures.evaluated.grown c.in_ok-rows.ensures.needed c.solve_each_union.ensures.needed)
+    takes_as_each terms s.index.now s.width v c.union_of.result (algebra_of c.args.inner.now) (algebra.Union L R) is
+    (takes_pair terms c.in_ok-rows.dict s.index.now c.requires.index s.width v graphs c.requires.graphs c.union_of.result L R c.in_ok-rows.ensures.evaluated.grown c.in_ok-rows.ensures.needed
+    (takes_still (NeededIn c.in_ok-rows.dict s.index.now s.width (each_graph v) R) c.in_ok-rows.dict c.in_ok-more.dict c.union_of.result c.in_ok-more.ensures.needed c.union_of.ensures.same_dict))
+
+pub solve_outward-returns-in-Union-clause-one_worker : goal.solve_outward-returns-in-Union-clause-one_worker
+solve_outward-returns-in-Union-clause-one_worker g t c = λ _. c.union_of.ensures.memory
 
 pub solve_outward-solve_left_join-requires-clause-index : goal.solve_outward-solve_left_join-requires-clause-index
 solve_outward-solve_left_join-requires-clause-index g t c κs within = (index_kept c.args.dict c.in_ok-rows-2.dict c.in_ok-rows-2.ensures.evaluated.grown c.args.self.now.index.now c.requires.index).0
@@ -1571,37 +1535,24 @@ solve_each_where-returns-clause-evaluated g t c =
 
 -- ---- a join of the rows of all graphs
 
-pub solve_each_join-join_of-requires-clause-known_left : goal.solve_each_join-join_of-requires-clause-known_left
-solve_each_join-join_of-requires-clause-known_left g t c κs within = (rows_kept c.args.dict c.in_ok-right.dict c.in_ok-right.ensures.evaluated.grown c.args.left.rows c.requires.known_left).0
+pub solve_outward-join_of-requires-clause-known_left : goal.solve_outward-join_of-requires-clause-known_left
+solve_outward-join_of-requires-clause-known_left g t c κs within = (rows_kept c.in_ok-rows-4.dict c.in_ok-others.dict c.in_ok-others.ensures.evaluated.grown c.in_ok-rows-4.rows.rows c.in_ok-rows-4.ensures.evaluated.known).0
 
-pub solve_each_join-join_of-requires-clause-same_width : goal.solve_each_join-join_of-requires-clause-same_width
-solve_each_join-join_of-requires-clause-same_width g t c κs within = c.requires.same_width ∙ sym c.in_ok-right.ensures.evaluated.wide
+pub solve_outward-join_of-requires-clause-same_width : goal.solve_outward-join_of-requires-clause-same_width
+solve_outward-join_of-requires-clause-same_width g t c κs within = c.in_ok-rows-4.ensures.evaluated.wide ∙ sym c.in_ok-others.ensures.evaluated.wide
 
-pub solve_each_join-join_of-requires-clause-known_right : goal.solve_each_join-join_of-requires-clause-known_right
-solve_each_join-join_of-requires-clause-known_right g t c κs within = c.in_ok-right.ensures.evaluated.known
+pub solve_outward-join_of-requires-clause-known_right : goal.solve_outward-join_of-requires-clause-known_right
+solve_outward-join_of-requires-clause-known_right g t c κs within = c.in_ok-others.ensures.evaluated.known
 
-pub solve_each_join-returns-clause-evaluated : goal.solve_each_join-returns-clause-evaluated
-solve_each_join-returns-clause-evaluated g t c =
-    let s = c.args.self.now in
-    after_right c.args.dict c.in_ok-right.dict s.width c.join_of.result (join term_eq) join_keeps (solutions_in c.args.dict s.index.now s.width c.args.variable c.args.graphs.now (algebra_of c.args.right.now)) c.args.left c.in_ok-right.right c.requires.same_width c.requires.known_left c.in_ok-right.ensures.evaluated c.join_of.ensures.evaluated
+pub solve_outward-solve_each-requires-then-is_partly_closed-2-clause-index : goal.solve_outward-solve_each-requires-then-is_partly_closed-2-clause-index
+solve_outward-solve_each-requires-then-is_partly_closed-2-clause-index g t c κs within = (index_kept c.args.dict c.in_ok-rows-4.dict c.in_ok-rows-4.ensures.evaluated.grown c.args.self.now.index.now c.requires.index).0
 
-pub solve_each_join-returns-clause-needed : goal.solve_each_join-returns-clause-needed
-solve_each_join-returns-clause-needed g t c =
-    let s = c.args.self.now in
-    takes_still (NeededIn c.args.dict s.index.now s.width (each_graph c.args.variable) (algebra_of c.args.right.now)) c.args.dict c.in_ok-right.dict c.join_of.result c.in_ok-right.ensures.needed c.join_of.ensures.same_dict
-
-pub solve_each_join-returns-clause-one_worker : goal.solve_each_join-returns-clause-one_worker
-solve_each_join-returns-clause-one_worker g t c = c.join_of.ensures.one_worker
-
-pub solve_outward-solve_each_join-requires-clause-index : goal.solve_outward-solve_each_join-requires-clause-index
-solve_outward-solve_each_join-requires-clause-index g t c κs within = (index_kept c.args.dict c.in_ok-rows-4.dict c.in_ok-rows-4.ensures.evaluated.grown c.args.self.now.index.now c.requires.index).0
-
-pub solve_outward-solve_each_join-requires-clause-graphs : goal.solve_outward-solve_each_join-requires-clause-graphs
-solve_outward-solve_each_join-requires-clause-graphs g t c κs within =
+pub solve_outward-solve_each-requires-then-is_partly_closed-2-clause-graphs : goal.solve_outward-solve_each-requires-then-is_partly_closed-2-clause-graphs
+solve_outward-solve_each-requires-then-is_partly_closed-2-clause-graphs g t c κs within =
     graphs_kept c.args.dict c.in_ok-rows-4.dict c.in_ok-rows-4.ensures.evaluated.grown c.args.self.now.index.now c.requires.index c.args.graphs.now c.requires.graphs
 
-pub solve_outward-solve_each_join-requires-clause-within : goal.solve_outward-solve_each_join-requires-clause-within
-solve_outward-solve_each_join-requires-clause-within g t c κs within =
+pub solve_outward-solve_each-requires-then-is_partly_closed-2-clause-within : goal.solve_outward-solve_each-requires-then-is_partly_closed-2-clause-within
+solve_outward-solve_each-requires-then-is_partly_closed-2-clause-within g t c κs within =
     subst (λ (T : Operator). is_within c.args.self.now.width (algebra_of T) ≡ true) (sym c.deref-then-is_partly_closed-2.ensures) (join_within c.args.self.now.width c.in-Join.left c.in-Join.right c.args.inner.now c.in-Join.is c.requires.within).1
 
 pub solve_outward-returns-then-is_partly_closed-clause-evaluated : goal.solve_outward-returns-then-is_partly_closed-clause-evaluated
@@ -1615,8 +1566,9 @@ solve_outward-returns-then-is_partly_closed-clause-evaluated g t c =
     let R = algebra_of c.deref-then-is_partly_closed-2.result.now in
     let is : algebra_of c.args.inner.now ≡ algebra.Join L R =
     ap algebra_of c.in-Join.is ∙ join_denotes c.in-Join.left c.in-Join.right ∙ (λ i. algebra.Join (algebra_of ((sym c.deref-then-is_partly_closed.ensures) i)) (algebra_of ((sym c.deref-then-is_partly_closed-2.ensures) i))) in
-    as_whole terms s.width c.solve_each_join.result (whole (algebra.Join L R)) (whole (algebra_of c.args.inner.now)) (ap whole is)
-    (join_each terms c.in_ok-rows-4.dict s.index.now c.requires.index s.width v graphs c.requires.graphs c.solve_each_join.result L R c.requires.variable c.in_ok-rows-4.rows c.in_ok-rows-4.ensures.evaluated c.solve_each_join.ensures.evaluated)
+    as_whole terms s.width c.join_of.result (whole (algebra.Join L R)) (whole (algebra_of c.args.inner.now)) (ap whole is)
+    (join_each terms c.in_ok-rows-4.dict s.index.now c.requires.index s.width v graphs c.requires.graphs c.join_of.result L R c.requires.variable c.in_ok-rows-4.rows c.in_ok-rows-4.ensures.evaluated
+    (after_right c.in_ok-rows-4.dict c.in_ok-others.dict s.width c.join_of.result (join term_eq) join_keeps (solutions_in c.in_ok-rows-4.dict s.index.now s.width v graphs R) c.in_ok-rows-4.rows c.in_ok-others.others c.in_ok-rows-4.ensures.evaluated.wide c.in_ok-rows-4.ensures.evaluated.known c.in_ok-others.ensures.evaluated c.join_of.ensures.evaluated))
 
 pub solve_outward-returns-then-is_partly_closed-clause-needed : goal.solve_outward-returns-then-is_partly_closed-clause-needed
 solve_outward-returns-then-is_partly_closed-clause-needed g t c =
@@ -1628,11 +1580,12 @@ solve_outward-returns-then-is_partly_closed-clause-needed g t c =
     let R = algebra_of c.deref-then-is_partly_closed-2.result.now in
     let is : algebra_of c.args.inner.now ≡ algebra.Join L R =
     ap algebra_of c.in-Join.is ∙ join_denotes c.in-Join.left c.in-Join.right ∙ (λ i. algebra.Join (algebra_of ((sym c.deref-then-is_partly_closed.ensures) i)) (algebra_of ((sym c.deref-then-is_partly_closed-2.ensures) i))) in
-    takes_as_each terms s.index.now s.width v c.solve_each_join.result (algebra_of c.args.inner.now) (algebra.Join L R) is
-    (takes_pair terms c.in_ok-rows-4.dict s.index.now c.requires.index s.width v graphs c.requires.graphs c.solve_each_join.result L R c.in_ok-rows-4.ensures.evaluated.grown c.in_ok-rows-4.ensures.needed c.solve_each_join.ensures.needed)
+    takes_as_each terms s.index.now s.width v c.join_of.result (algebra_of c.args.inner.now) (algebra.Join L R) is
+    (takes_pair terms c.in_ok-rows-4.dict s.index.now c.requires.index s.width v graphs c.requires.graphs c.join_of.result L R c.in_ok-rows-4.ensures.evaluated.grown c.in_ok-rows-4.ensures.needed
+    (takes_still (NeededIn c.in_ok-rows-4.dict s.index.now s.width (each_graph v) R) c.in_ok-rows-4.dict c.in_ok-others.dict c.join_of.result c.in_ok-others.ensures.needed c.join_of.ensures.same_dict))
 
 pub solve_outward-returns-then-is_partly_closed-clause-one_worker : goal.solve_outward-returns-then-is_partly_closed-clause-one_worker
-solve_outward-returns-then-is_partly_closed-clause-one_worker g t c = c.solve_each_join.ensures.one_worker
+solve_outward-returns-then-is_partly_closed-clause-one_worker g t c = c.join_of.ensures.one_worker
 
 -- ---- the same, of which only the rows that fit are needed
 
