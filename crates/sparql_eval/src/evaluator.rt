@@ -1,6 +1,6 @@
 //! The recursion over the tree of a plan: each operator is applied to the rows of its inputs.
 //!
-//! The methods of [`Evaluator`] are in several modules: `two_inputs` has the operators with two inputs,
+//! The methods of [`Evaluator`] are in several modules: `two_inputs` has Join, LeftJoin and Minus,
 //! `filtered_trees` Filter, `named_graphs` and `across_graphs` GRAPH, and `trees_to_join` what a join needs
 //! of a tree.
 ghost use Rattle.std.specs.Prelude.{◌≡◌, ◌<◌, true, length, option_map, IfErr, IfOk};

@@ -1,4 +1,4 @@
-//! Operators with two inputs. The rows of the left input are there already, and the tree of the right one
+//! Join, LeftJoin and Minus. The rows of the left input are there already, and the tree of the right one
 //! is evaluated here.
 ghost use Rattle.std.specs.Prelude.{◌≡◌, ◌<◌, true, length, IfErr, IfOk};
 ghost use Rattle.std.specs.Option.{ForSome};
