@@ -27,7 +27,7 @@ fn numbered<'a>(
     ensures columns { IfOk result
         (λ c. map column_of c.items ≡ numbered 0 (listed_names names.now listed.now)) }
 {
-    let mut columns = Vec::with_capacity(alloc, listed.len())?;
+    let mut columns = Vec::new(alloc);
     for place in 0..listed.len() {
         columns.push((name_of(names, listed[place]), place))?;
     }
@@ -72,7 +72,7 @@ pub(crate) fn begun_columns(
         ≡ map begun (columns (listed_names names.now listed.now))) }
 {
     let columns = columns_of(alloc, names, listed)?;
-    let mut made = Vec::with_capacity(alloc, columns.len())?;
+    let mut made = Vec::new(alloc);
     for (name, place) in &columns {
         made.push((member_start(alloc, name)?, *place))?;
     }

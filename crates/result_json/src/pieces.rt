@@ -1,6 +1,7 @@
-//! Pieces of a list for workers: how many elements a piece has, and which.
+//! Pieces of a list: how many elements a piece has for a worker, and which, and what follows the
+//! first elements.
 ghost use Rattle.std.specs.Int.{div_ceil};
-ghost use Rattle.std.specs.Prelude.{◌≡◌, ◌≤◌};
+ghost use Rattle.std.specs.Prelude.{◌≡◌, ◌≤◌, drop};
 ghost use Rattle.piece_pool.specs.Limits.{most_pieces};
 ghost use Rattle.row_pieces.specs.How.{IsRunnable};
 ghost use Rattle.row_pieces.specs.Pieces.{piece_of};
@@ -26,4 +27,11 @@ pub(crate) fn piece<T>(elements: &[T], size: usize, number: u64) -> &[T]
 {
     let (from, to) = piece_ends(elements.len(), size, number);
     &elements[from..to]
+}
+
+/// Returns the elements after the first `count`.
+pub(crate) fn following<T>(elements: &[T], count: usize) -> &[T]
+    ensures value { result.now ≡ drop count elements.now }
+{
+    &elements[elements.len().min(count)..]
 }

@@ -185,40 +185,22 @@ fn without_keys<'t>(alloc: Global, keyed: &[Keyed<'t>]) -> Result<Vec<(&'t Term,
     Ok(entries)
 }
 
-/// Returns the terms with their keys, in sorted pieces that are concatenated. Each worker gets a
-/// piece, unless that has fewer terms than `how` has rows in a piece.
-///
-/// # Requires
-/// `how` is within its limits.
-///
-/// # Errors
-/// - `WorkerRefused` if a worker thread could not be started. It cannot occur with one worker.
-/// - `Memory` if an allocation fails.
-fn sorted_pieces<'t, R: Threads + Wait>(
-    rt: &R,
+/// Merges sorted pieces, which have `count` terms, and leaves out the keys.
+fn merged<'t>(
     alloc: Global,
-    entries: &[(&'t Term, u64)],
-    how: &How,
-) -> Result<Vec<Keyed<'t>>, EvalFault>
-    requires how { IsRunnable how.now }
-    ensures permutation { IfOk result (λ keyed. IsPermutation entries.now (entries_of keyed.items)) }
-    ensures one_worker { HasOneWorker how.now → IfErr result (λ fault. fault ≡ Memory) }
+    count: usize,
+    pieces: Vec<Vec<Keyed<'t>>>,
+) -> Result<Vec<(&'t Term, u64)>, AllocError>
+    ensures permutation { IfOk result
+        (λ sorted. IsPermutation (joined_entries pieces.entry.items) sorted.items) }
 {
-    let count = entries.len();
-    let size = worker_piece_size(count, how);
-    let pieces = count.div_ceil(size) as u64;
-    let job = KeyedPieces {
-        entries,
-        prefixes: shared_prefixes(entries),
-        size,
-    };
-    match run_all(rt, alloc, how.workers, pieces, &job, &OpenGate)? {
-        Outcome::All(sorted) => Ok(joined(alloc, count, sorted)?),
-        Outcome::First { .. } => unreachable!(),
-    }
+    let mut keyed = joined(alloc, count, pieces)?;
+    keyed.sort()?;
+    without_keys(alloc, &keyed)
 }
 
-/// Returns the terms, each with its number, sorted by their keys.
+/// Returns the terms, each with its number, sorted by their keys. Each worker sorts a piece, unless
+/// that has fewer terms than `how` has rows in a piece.
 ///
 /// # Requires
 /// `how` is within its limits.
@@ -236,7 +218,16 @@ pub(crate) fn presorted<'t, R: Threads + Wait>(
     ensures permutation { IfOk result (λ sorted. IsPermutation entries.now sorted.items) }
     ensures one_worker { HasOneWorker how.now → IfErr result (λ fault. fault ≡ Memory) }
 {
-    let mut keyed = sorted_pieces(rt, alloc, entries, how)?;
-    keyed.sort()?;
-    Ok(without_keys(alloc, &keyed)?)
+    let count = entries.len();
+    let size = worker_piece_size(count, how);
+    let pieces = count.div_ceil(size) as u64;
+    let job = KeyedPieces {
+        entries,
+        prefixes: shared_prefixes(entries),
+        size,
+    };
+    match run_all(rt, alloc, how.workers, pieces, &job, &OpenGate)? {
+        Outcome::All(sorted) => Ok(merged(alloc, count, sorted)?),
+        Outcome::First { .. } => unreachable!(),
+    }
 }

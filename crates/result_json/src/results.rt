@@ -105,8 +105,7 @@ fn put_names(
 fn head(alloc: Global, names: &[Text], listed: &[usize]) -> Result<Vec<u8>, AllocError>
     ensures text { IfOk result (λ head. head.items ≡ head_text (listed_names names.now listed.now)) }
 {
-    let mut out = Vec::new(alloc);
-    out.extend_from_slice(b"{\"head\":{\"vars\":[")?;
+    let mut out = Vec::from_slice(alloc, b"{\"head\":{\"vars\":[")?;
     put_names(alloc, &mut out, names, listed)?;
     out.extend_from_slice(b"]},\"results\":{\"bindings\":[")?;
     Ok(out)
@@ -116,9 +115,7 @@ fn head(alloc: Global, names: &[Text], listed: &[usize]) -> Result<Vec<u8>, Allo
 fn tail(alloc: Global) -> Result<Vec<u8>, AllocError>
     ensures text { IfOk result (λ tail. tail.items ≡ codes "]}}\n") }
 {
-    let mut out = Vec::new(alloc);
-    out.extend_from_slice(b"]}}\n")?;
-    Ok(out)
+    Vec::from_slice(alloc, b"]}}\n")
 }
 
 /// Returns the blocks with the head before them and the tail after them.
@@ -132,9 +129,9 @@ fn enclosed(
         ≡ head_text (listed_names names.now listed.now) ++ (joined_blocks blocks.old.items ++ codes "]}}\n")) }
 {
     let mut made = Vec::with_capacity(alloc, blocks.len().saturating_add(2))?;
-    made.push(head(alloc, names, listed)?)?;
+    made.push_reserved(head(alloc, names, listed)?);
     made.append(blocks)?;
-    made.push(tail(alloc)?)?;
+    made.push_reserved(tail(alloc)?);
     Ok(made)
 }
 

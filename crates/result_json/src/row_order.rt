@@ -1,10 +1,11 @@
 //! The order of rows of ranks.
-ghost use Rattle.std.specs.Prelude.{◌≡◌, drop, take, IfOk, IsPermutation, IsSorted};
+ghost use Rattle.std.specs.Prelude.{◌≡◌, take, IfOk, IsPermutation, IsSorted};
 ghost use Rattle.std.specs.Cmp.Lexicographic.{slice_cmp};
 ghost use Rattle.std.specs.Ordering.{nat_cmp};
 ghost use Rattle.row_core.specs.RowList.{rows_in};
 ghost use Rattle.result_json.specs.RankedRows.{ranks_of};
 
+use crate::pieces::following;
 use crate::ranked_row::{RankedRow, ranked_row};
 use std::alloc::{AllocError, Global};
 
@@ -13,13 +14,6 @@ fn first_row(ranks: &[u64], width: usize) -> &[u64]
     ensures value { result.now ≡ take width ranks.now }
 {
     &ranks[..ranks.len().min(width)]
-}
-
-/// Returns the ranks after the first row of a width.
-fn later_rows(ranks: &[u64], width: usize) -> &[u64]
-    ensures value { result.now ≡ drop width ranks.now }
-{
-    &ranks[ranks.len().min(width)..]
 }
 
 /// Splits a list of ranks into `count` consecutive rows of a width.
@@ -39,7 +33,7 @@ pub(crate) fn split_rows(
     let mut rest = ranks;
     for _turn in 0..count {
         made.push(ranked_row(first_row(rest, width)))?;
-        rest = later_rows(rest, width);
+        rest = following(rest, width);
     }
     Ok(made)
 }

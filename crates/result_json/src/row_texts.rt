@@ -3,10 +3,11 @@
 //! A row consists of the beginnings of its members, each printed once for a column, and of the
 //! texts of terms, each printed once. Rows are printed in groups: the texts of all rows of a group
 //! are looked up first.
-ghost use Rattle.std.specs.Prelude.{◌≡◌, ◌++◌, ◌||◌, drop, is_some, map, IfOk, OnOk};
+ghost use Rattle.std.specs.Prelude.{◌≡◌, ◌++◌, ◌||◌, is_some, map, IfOk, OnOk};
 ghost use Rattle.result_json.specs.Ranks.{ranked_cell};
 ghost use Rattle.result_json.specs.Texts.{all_texts, begun_column, begun_member, begun_row, comma_texts, places_of, row_texts, IsAhead, IsRowAhead};
 
+use crate::pieces::following;
 use crate::prefetch::{looked_up, text_at};
 use crate::ranked_row::RankedRow;
 use crate::text_pieces::TextPieces;
@@ -17,34 +18,8 @@ use std::alloc::{AllocError, Global};
 const GROUP: usize = 32;
 
 /// Appends the member of a cell if it is bound, with a comma if another member precedes it. Returns
-/// whether the row now has a member. It looks up the text of the cell's term itself.
-fn put_cell(
-    alloc: Global,
-    out: &mut Vec<u8>,
-    prefix: &[u8],
-    texts: &TextPieces<'_>,
-    rank: u64,
-    later: bool,
-) -> Result<bool, AllocError>
-    ensures text { OnOk result
-        (out.new.items ≡ out.old.items
-        ++ comma_texts later (begun_member prefix.now (ranked_cell texts.now rank))) }
-    ensures later { IfOk result (λ b. b ≡ (later || is_some (ranked_cell texts.now rank))) }
-{
-    let Some(place) = texts.place(rank) else {
-        return Ok(later);
-    };
-    if later {
-        out.push(b',')?;
-    }
-    out.extend_from_slice(prefix)?;
-    texts.put(alloc, out, place)?;
-    Ok(true)
-}
-
-/// Appends the member of a cell if it is bound, with a comma if another member precedes it. Returns
-/// whether the row now has a member. If the text looked up for the cell is empty, the term's own
-/// text is used.
+/// whether the row now has a member. If the text looked up for the cell is empty, the term is
+/// printed directly.
 fn put_member(
     alloc: Global,
     out: &mut Vec<u8>,
@@ -60,14 +35,18 @@ fn put_member(
         ++ comma_texts later (begun_member prefix.now (ranked_cell texts.now rank))) }
     ensures later { IfOk result (λ b. b ≡ (later || is_some (ranked_cell texts.now rank))) }
 {
-    if text.is_empty() {
-        return put_cell(alloc, out, prefix, texts, rank, later);
-    }
+    let Some(place) = texts.place(rank) else {
+        return Ok(later);
+    };
     if later {
         out.push(b',')?;
     }
     out.extend_from_slice(prefix)?;
-    out.extend_from_slice(text)?;
+    if text.is_empty() {
+        texts.put(alloc, out, place)?;
+    } else {
+        out.extend_from_slice(text)?;
+    }
     Ok(true)
 }
 
@@ -94,13 +73,6 @@ fn put_row(
     }
     out.push(b'}')?;
     Ok(())
-}
-
-/// Returns the elements after the first `count`.
-fn following<T>(elements: &[T], count: usize) -> &[T]
-    ensures value { result.now ≡ drop count elements.now }
-{
-    &elements[elements.len().min(count)..]
 }
 
 /// Appends a group of rows, with a comma before each, or before each except the first. The texts of

@@ -1,5 +1,5 @@
 //! Terms as JSON, each printed once.
-ghost use Rattle.std.specs.Prelude.{◌≡◌, ◌⊎◌, ◌++◌, ◌<◌, [], length, IfOk, OnOk};
+ghost use Rattle.std.specs.Prelude.{◌≡◌, ◌⊎◌, ◌<◌, [], length, IfOk};
 ghost use Rattle.dict_core.specs.Dict.{term_at};
 ghost use Rattle.result_json.specs.Ranks.{terms_of};
 ghost use Rattle.result_json.specs.Results.{term_text};
@@ -102,26 +102,5 @@ impl<'a> TermTexts<'a> {
         } else {
             &[]
         }
-    }
-
-    /// Appends the text of the term at a place. A term that is not printed yet is printed directly.
-    ///
-    /// # Errors
-    /// `AllocError` if an allocation fails.
-    pub(crate) fn put(
-        &self,
-        alloc: Global,
-        out: &mut Vec<u8>,
-        place: usize,
-    ) -> Result<(), AllocError>
-        requires inside { place < length self.now }
-        ensures text { OnOk result
-            (out.new.items ≡ out.old.items ++ term_text (term_at self.now place)) }
-    {
-        let (start, end) = self.spans[place];
-        if start < end {
-            return out.extend_from_slice(&self.printed[start..end]);
-        }
-        put_term(alloc, out, self.terms[place].0)
     }
 }

@@ -11,6 +11,7 @@ ghost use Rattle.result_json.specs.Results.{term_text};
 
 use crate::pieces::{piece, worker_piece_size};
 use crate::term_texts::TermTexts;
+use crate::values::put_term;
 use piece_pool::{Job, JobFault, OpenGate, Outcome, run_all};
 use rdf_core::Term;
 use row_pieces::{EvalFault, How};
@@ -30,6 +31,14 @@ pub(crate) fn place_of(terms: &[(&Term, u64)], rank: u64) -> Option<usize>
     } else {
         Some((rank - 1) as usize)
     }
+}
+
+/// Returns the term at a place in the list.
+fn term_of<'a>(terms: &[(&'a Term, u64)], place: usize) -> &'a Term
+    requires inside { place < length (terms_of terms.now) }
+    ensures term { result.now ≡ term_at (terms_of terms.now) place }
+{
+    terms[place].0
 }
 
 /// Returns the places of the shown terms, each after the number of its term, in ascending order of
@@ -193,7 +202,7 @@ impl<'a> TextPieces<'a> {
         piece.printed(place)
     }
 
-    /// Appends the text of the term at a place. A term that is not printed yet is printed directly.
+    /// Prints the term at a place, whether it is printed already or not, and appends it.
     ///
     /// # Errors
     /// `AllocError` if an allocation fails.
@@ -207,7 +216,6 @@ impl<'a> TextPieces<'a> {
         ensures text { OnOk result
             (out.new.items ≡ out.old.items ++ term_text (term_at self.now place)) }
     {
-        let (piece, place) = self.piece_at(place);
-        piece.put(alloc, out, place)
+        put_term(alloc, out, term_of(self.terms, place))
     }
 }

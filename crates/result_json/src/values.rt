@@ -2,7 +2,6 @@
 //! others. The object of a term is made around its texts.
 ghost use Rattle.std.specs.Prelude.{◌≡◌, ◌++◌, codes, false, IfOk, OnOk};
 ghost use Rattle.std.specs.List.{list_all};
-ghost use Rattle.serde_json.specs.Data.{string};
 ghost use Rattle.serde_json.specs.View.{view};
 ghost use Rattle.serde_json.specs.Written.{has_float, compact_text};
 ghost use Rattle.result_json.specs.Results.{string_text, term_text};
@@ -12,13 +11,6 @@ use rdf_core::vocabulary::XSD_STRING;
 use rdf_core::{Term, Text};
 use serde_json::Value;
 use std::alloc::{AllocError, Global};
-
-/// Returns a text as a JSON value.
-fn string_value(alloc: Global, text: &str) -> Result<Value, AllocError>
-    ensures { IfOk result (λ v. view v ≡ string text.now) }
-{
-    Ok(Value::String(String::from_str(alloc, text)?))
-}
 
 /// Returns what the library prints for a value without floats.
 fn printed(alloc: Global, value: &Value) -> Result<Vec<u8>, AllocError>
@@ -32,7 +24,7 @@ fn printed(alloc: Global, value: &Value) -> Result<Vec<u8>, AllocError>
 fn printed_string(alloc: Global, text: &str) -> Result<Vec<u8>, AllocError>
     ensures { IfOk result (λ printed. printed.items ≡ string_text text.now) }
 {
-    printed(alloc, &string_value(alloc, text)?)
+    printed(alloc, &Value::try_from_str(alloc, text)?)
 }
 
 /// Returns whether a byte needs no escape in a JSON string: it is not a control character,

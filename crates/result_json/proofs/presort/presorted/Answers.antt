@@ -1,13 +1,12 @@
-use Rattle.std.proofs.Common.{subst, sym, ap, ◌∙◌, IsPermutation, List}
-use Rattle.std.proofs.lemmas.List.Sorted.{IsPermutation-map, IsPermutation-trans}
-use Rattle.result_json.specs.declared.presort.Keyed.{Keyed}
-use Rattle.result_json.specs.Keyed.{entries_of}
-use Rattle.result_json.specs.Ranks.{Entry}
+use Rattle.std.proofs.Common.{length, refl}
+use Rattle.std.proofs.lemmas.List.Sorted.{IsPermutation-trans}
+use Rattle.result_json.proofs.KeyedLaws.{pieces-permuted}
 use Rattle.result_json.proofs.presort.presorted.Goals as goal
 
 pub returns-clause-permutation : goal.returns-clause-permutation
 returns-clause-permutation g c =
+    let all = rw c.in-All.is at c.in_ok-sorted.ensures.outcome in
     let entries = c.args.entries.now in
-    let sorted = c.sort.new.self.items in
-    let p : IsPermutation entries (entries_of sorted) = IsPermutation-trans _ _ _ c.in_ok-keyed.ensures.permutation (IsPermutation-map (λ (k : Keyed). k.entry) c.in_ok-keyed.keyed.items sorted c.in_ok-sort.ensures.permutation) in
-    subst (λ (es : List Entry). IsPermutation entries es) (sym (c.in_ok-without_keys.ensures.entries ∙ ap entries_of c.deref.ensures.value)) p
+    IsPermutation-trans entries _ _
+    (pieces-permuted c.worker_piece_size-size.result (length entries) c.div_ceil-pieces.result c.in-All.sorted.items entries c.worker_piece_size-size.ensures.some refl c.div_ceil-pieces.ensures all.count all.each)
+    c.in_ok-merged-in-All.ensures.permutation

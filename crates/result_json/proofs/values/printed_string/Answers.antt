@@ -4,8 +4,8 @@ use Rattle.result_json.proofs.PrintedLaws.{string_is}
 use Rattle.result_json.proofs.values.printed_string.Goals as goal
 
 pub printed-requires : goal.printed-requires
-printed-requires c = ap has_float c.in_ok-string_value.ensures
+printed-requires c = ap has_float c.in_ok-try_from_str.ensures
 
 pub returns : goal.returns
 returns c =
-    subst (λ (text : List ℕ). IfOk c.printed.result (λ v. v.items ≡ text)) (ap compact_text c.in_ok-string_value.ensures ∙ string_is _) c.printed.ensures
+    subst (λ (text : List ℕ). IfOk c.printed.result (λ v. v.items ≡ text)) (ap compact_text c.in_ok-try_from_str.ensures ∙ string_is _) c.printed.ensures
