@@ -74,6 +74,9 @@ borrowed_more pieces new blocks i piece block low was value is pushed =
     ∙ ap (λ (b : Vec ℕ Global). block_texts (take i blocks) ++ b.items ∷ []) is
     ∙ sym (texts_more (take i blocks) (take (i + 1) blocks) (get_or blocks i block) (take_more blocks i block low))
 
+pub pushed_piece : (old new : List (Bor (List ℕ))) (piece : Bor (List ℕ)) → new ≡ old ++ piece ∷ [] → length new ≡ length old + 1
+pushed_piece old new piece e = ap length e ∙ length-append old (piece ∷ [])
+
 pub pushed_length : (old new : List (Vec ℕ Global)) (block : Vec ℕ Global) → new ≡ old ++ block ∷ [] → length new ≡ length old + 1
 pushed_length old new block e = ap length e ∙ length-append old (block ∷ [])
 

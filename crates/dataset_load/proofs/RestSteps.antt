@@ -5,7 +5,11 @@ use Rattle.nquads_core.specs.Lines.{EndsLine}
 use Rattle.rdf_core.specs.QuadParts.{QuadParts}
 use Rattle.nquads_core.specs.Pieces.{HaveStatements, IsBadLine}
 use Rattle.nquads_core.specs.Transfer.{IsReadInPart}
+use Rattle.nquads_core.specs.Device.{Stays}
+use Rattle.nquads_core.proofs.TransferSteps.{Stays-rises, Stays-stays}
 use Rattle.nquads_core.specs.declared.transfer.ReadFault.{ReadFault}
+use Rattle.nquads_core.specs.declared.transfer.ReadFault.TheVariants.{Memory, Read}
+use Rattle.piece_pool.specs.declared.pool.PoolFault.{PoolFault}
 use Rattle.malformed_lines.specs.Malformed.{IsListed}
 use Rattle.malformed_lines.specs.declared.document_list.MalformedLines.{MalformedLines}
 use Rattle.dataset_load.specs.declared.reader.RoundBlocks.{RoundBlocks}
@@ -13,8 +17,14 @@ use Rattle.dataset_load.specs.Limits.{most_pieces_of_a_round}
 use Rattle.dataset_load.specs.Lines.{all_lines}
 use Rattle.dataset_load.specs.Ahead.{IsAhead, IsNextRound, texts_of}
 use Rattle.dataset_load.specs.declared.bad_round.BadRound.{BadRound}
+use Rattle.dataset_load.specs.declared.load_notes.Listing.{Listing}
+use Rattle.dataset_load.specs.declared.reader_fault.ReaderFault.{ReaderFault}
+use Rattle.dataset_load.specs.declared.reader_fault.ReaderFault.TheVariants.{BadLine, WorkerRefused, Memory as OutOfMemory, Read as ReadFailed}
+use Rattle.dataset_load.specs.Causes.{IsCaused}
+use Rattle.dataset_load.specs.FaultNames.{fault_of_read}
 use Rattle.dataset_load.specs.Listing.{IsListedFrom}
-use Rattle.dataset_load.specs.BadRounds.{IsBadList, IsBadRound}
+use Rattle.dataset_load.specs.ReaderFault.{CountsLoading}
+use Rattle.dataset_load.specs.BadRounds.{IsBadList, IsBadRound, IsListedAfter}
 use Rattle.dataset_load.specs.Streaming.{IsBadLineFrom}
 use Rattle.dataset_load.specs.ReadSoFar.{IsBadSoFar, IsReadIn, IsToEnd}
 use Rattle.dataset_load.proofs.LineLaws.{bad_before}
@@ -105,3 +115,16 @@ listed_from a b n list was = record { doc = was.doc; consumed = was.consumed; at
 
 pub part_of_line : (a b : Option (List ℕ)) (n : ℕ) → IsBadLineFrom a b n → IsReadInPart a b
 part_of_line a b n was = record { taken = was.doc; consumed = was.consumed }
+
+-- the reader failed while the malformed lines were listed
+pub rest_failed : (fails : PoolFault → Type 0) (start left : Option (List ℕ)) (malformed : Option Listing) (fault : ReadFault)
+    → IsReadInPart start left → IsCaused fails start (fault_of_read fault) → IsListedAfter fails start left malformed (fault_of_read fault)
+rest_failed fails start left malformed Read part cause = record { bad_line = tt; listed = tt; stopped = tt; taken = part; cause = cause }
+rest_failed fails start left malformed Memory part cause = record { bad_line = tt; listed = tt; stopped = tt; taken = part; cause = cause }
+
+-- a fault after reads that did not fail
+pub counts_then : (a b c : Option ℕ) (fault : ReaderFault) → Stays a b → CountsLoading {T = ℕ} b c (Err fault) → CountsLoading {T = ℕ} a c (Err fault)
+counts_then a b c (BadLine n) h k = Stays-stays a b c h k
+counts_then a b c WorkerRefused h k = Stays-stays a b c h k
+counts_then a b c OutOfMemory h k = Stays-stays a b c h k
+counts_then a b c ReadFailed h k = Stays-rises a b c h k

@@ -44,11 +44,13 @@ impl<'g, G, L> ReadState<'g, G, L> {
         }
     }
 
-    /// Returns the gate of the next round's pieces.
-    pub(crate) fn offset_gate(&self) -> OffsetGate<'g, G> {
+    /// Returns the gate of the next round, which has this number of pieces.
+    pub(crate) fn next_gate(&mut self, pieces: usize) -> OffsetGate<'g, G> {
+        let first = self.pieces;
+        self.pieces = first.saturating_add(pieces as u64);
         OffsetGate {
             gate: self.gate,
-            first: self.pieces,
+            first,
         }
     }
 }

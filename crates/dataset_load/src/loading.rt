@@ -1,5 +1,5 @@
 //! Loads a document that is in memory.
-ghost use Rattle.std.specs.Prelude.{◌≡◌, ◌≤◌, IfOk, IfErr};
+ghost use Rattle.std.specs.Prelude.{◌≡◌, ◌≤◌, length, IfOk, IfErr};
 ghost use Rattle.nquads_core.specs.Lines.{lines};
 ghost use Rattle.nquads_core.specs.Pieces.{IsBadLine};
 ghost use Rattle.piece_pool.specs.Limits.{most_workers};
@@ -145,6 +145,7 @@ fn pieces_of<'d>(alloc: Global, doc: &'d [u8], cuts: &Cuts) -> Result<Vec<&'d [u
 /// Returns the bytes of the blocks, in order.
 pub(crate) fn borrowed_blocks(alloc: Global, blocks: &[Vec<u8>]) -> Result<Vec<&[u8]>, AllocError>
     ensures texts { IfOk result (λ v. texts v.items ≡ block_texts blocks.now) }
+    ensures count { IfOk result (λ v. length v.items ≡ length blocks.now) }
 {
     let mut pieces = Vec::new(alloc);
     for block in blocks {

@@ -1,7 +1,7 @@
 //! What was read of a document so far.
 
 use dict_core::NumQuad;
-use std::alloc::{AllocError, Global};
+use std::alloc::Global;
 use std::hash::RandomState;
 use text_dict::TextDict;
 
@@ -15,22 +15,19 @@ pub(crate) struct Numbered {
 }
 
 impl Numbered {
-    ghost use Rattle.std.specs.Prelude.{IfOk, [], ◌≡◌};
+    ghost use Rattle.std.specs.Prelude.{[], ◌≡◌};
     ghost use Rattle.dataset_load.specs.Rounds.{HasRead};
 
     /// Creates the state in which no line is read. The hash state comes from the runtime, because the terms are
-    /// untrusted input.
-    ///
-    /// # Errors
-    /// `AllocError` if an allocation fails.
-    pub(crate) fn new(alloc: Global, state: RandomState) -> Result<Numbered, AllocError>
-        ensures none { IfOk result (λ so_far. HasRead so_far []) }
-        ensures no_lines { IfOk result (λ so_far. so_far.lines ≡ 0) }
+    /// untrusted input. Allocates nothing.
+    pub(crate) fn new(alloc: Global, state: RandomState) -> Numbered
+        ensures none { HasRead result [] }
+        ensures no_lines { result.lines ≡ 0 }
     {
-        Ok(Numbered {
+        Numbered {
             dict: TextDict::new(alloc, state),
             quads: Vec::new(alloc),
             lines: 0,
-        })
+        }
     }
 }

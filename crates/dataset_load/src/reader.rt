@@ -11,6 +11,7 @@ ghost use Rattle.dataset_load.specs.Ahead.{IsNextRound};
 ghost use Rattle.dataset_load.specs.FaultNames.{IsReadFailed};
 
 use crate::causes::tell_read;
+use crate::load_context::LoadContext;
 use crate::load_notes::LoadListener;
 use crate::rounds::{PIECES_A_ROUND, is_full};
 use nquads_core::{ReadFault, Source};
@@ -100,14 +101,12 @@ pub(crate) struct RoundBlocks {
 /// # Errors
 /// - `Read` if the reader fails. Bytes before that may have been taken from it.
 /// - `Memory` if an allocation fails. Bytes may have been taken from the reader.
-pub(crate) fn next_round<S: Source, L: LoadListener>(
-    alloc: Global,
+pub(crate) fn next_round<R, S: Source, L: LoadListener>(
+    context: &LoadContext<'_, R>,
     blocks: &mut Blocks,
     reader: &mut S,
-    workers: usize,
     listener: &L,
 ) -> Result<RoundBlocks, ReadFault>
-    requires workers { (1 ≤ workers) × (workers ≤ most_workers) }
     requires reading { blocks.old.state ≡ BlockState.Reading }
     ensures round { IfOk result (IsNextRound (S.left reader.old) (S.left reader.new)
         blocks.old.kept blocks.new.kept) }
@@ -118,8 +117,8 @@ pub(crate) fn next_round<S: Source, L: LoadListener>(
     ensures count { CountsRead (S.failures reader.old) (S.failures reader.new) result }
     ensures cause { IfErr result (IsReadFailed L.fails) }
 {
-    let mut round = Vec::new(alloc);
-    let is_last = fill_round(&mut round, blocks, reader, workers, listener)?;
+    let mut round = Vec::new(context.alloc);
+    let is_last = fill_round(&mut round, blocks, reader, context.workers, listener)?;
     Ok(RoundBlocks {
         blocks: round,
         is_last,
@@ -130,15 +129,13 @@ pub(crate) fn next_round<S: Source, L: LoadListener>(
 ///
 /// # Errors
 /// As `next_round`.
-pub(crate) fn round_after<S: Source, L: LoadListener>(
-    alloc: Global,
+pub(crate) fn round_after<R, S: Source, L: LoadListener>(
+    context: &LoadContext<'_, R>,
     is_last: bool,
     blocks: &mut Blocks,
     reader: &mut S,
-    workers: usize,
     listener: &L,
 ) -> Result<Option<RoundBlocks>, ReadFault>
-    requires workers { (1 ≤ workers) × (workers ≤ most_workers) }
     requires reading { is_last ≡ false → blocks.old.state ≡ BlockState.Reading }
     ensures none { is_last ≡ true → (result ≡ Ok None) × (reader.new ≡ reader.old) }
     ensures round { is_last ≡ false → IfOk result (λ next. IsSomeAnd next
@@ -154,7 +151,10 @@ pub(crate) fn round_after<S: Source, L: LoadListener>(
     if is_last {
         return Ok(None);
     }
-    Ok(Some(next_round(alloc, blocks, reader, workers, listener)?))
+    match next_round(context, blocks, reader, listener) {
+        Ok(round) => Ok(Some(round)),
+        Err(fault) => Err(fault),
+    }
 }
 
 /// Reads the blocks of a round, and returns whether the reader is at its end.

@@ -182,11 +182,11 @@ fn list_rounds<R: Threads + Wait, S: Source, L: LoadListener>(
 {
     let mut round = first;
     for _ in 0..MOST_ROUNDS {
-        let next = list_round(context, list, blocks, reader, listener, round)?;
-        let Some(next) = next else {
-            return Ok(());
-        };
-        round = next;
+        match list_round(context, list, blocks, reader, listener, round) {
+            Ok(Some(next)) => round = next,
+            Ok(None) => return Ok(()),
+            Err(fault) => return Err(fault),
+        }
     }
     Err(ReadFault::Memory)
 }
@@ -225,15 +225,14 @@ fn list_round<R: Threads + Wait, S: Source, L: LoadListener>(
     ensures count { CountsRead (S.failures reader.old) (S.failures reader.new) result }
 {
     let is_last = round.is_last;
-    let (alloc, workers) = (context.alloc, context.workers);
     let (listed, next) = list_blocks(
         context.rt,
-        alloc,
+        context.alloc,
         list,
         round.blocks.as_slice(),
-        workers,
+        context.workers,
         &OpenGate,
-        &mut || round_after(alloc, is_last, blocks, reader, workers, listener),
+        &mut || round_after(context, is_last, blocks, reader, listener),
     );
     blocks.reuse(round.blocks);
     next_if_listed(listener, listed, next)

@@ -66,7 +66,7 @@ pub(crate) fn number_pieces<R: Threads + Wait, G: Gate + Sync>(
     ensures one_worker { workers ≡ 1 → IfErr result IsOneWorkerLoadFault }
 {
     let context = LoadContext { rt, alloc, workers };
-    let mut so_far = Numbered::new(alloc, state)?;
+    let mut so_far = Numbered::new(alloc, state);
     let mut from = 0;
     while from < pieces.len() {
         let to = round_end(pieces, from, workers);

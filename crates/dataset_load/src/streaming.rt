@@ -1,5 +1,5 @@
 //! Loading the rest of a reader, round by round, so that the document is never held as a whole.
-ghost use Rattle.std.specs.Prelude.{◌≡◌, ◌+◌, ◌≤◌, ◌^◌, ◌++◌, [], false, length, Err, IfErr, IfOk, IfSome, IsOk, IsSomeAnd, MatchOption, Ok, OnErr, OnOk};
+ghost use Rattle.std.specs.Prelude.{◌≡◌, ◌+◌, ◌≤◌, ◌^◌, ◌++◌, ℕ, [], false, length, Err, IfErr, IfOk, IfSome, IsOk, IsSomeAnd, MatchOption, Ok, OnErr, OnOk};
 ghost use Rattle.nquads_core.specs.Transfer.{CountsRead, IsReadInPart};
 ghost use Rattle.nquads_core.specs.Pieces.{IsBadLine};
 ghost use Rattle.piece_pool.specs.Limits.{most_workers};
@@ -10,14 +10,13 @@ ghost use Rattle.dataset_load.specs.Limits.{most_pieces_of_a_round};
 ghost use Rattle.dataset_load.specs.Lines.{all_lines, block_texts};
 ghost use Rattle.dataset_load.specs.Rounds.{HasRead};
 ghost use Rattle.dataset_load.specs.ReaderFault.{CountsLoading, IfBadLineRead, IsOneWorkerReaderFault};
-ghost use Rattle.dataset_load.specs.FaultNames.{fault_of_load};
 ghost use Rattle.dataset_load.specs.Streaming.{IsBadLineFrom, IsLoadedFrom};
 ghost use Rattle.dataset_load.specs.ReadSoFar.{IsReadFrom, IsReadUpTo};
 ghost use Rattle.dataset_load.specs.Ahead.{IsReadAhead, Spends};
 ghost use Rattle.dataset_load.specs.Causes.{IsCaused, IsStopped};
 ghost use Rattle.dataset_load.specs.FaultNames.{IsFailed, IsLoadFailed, IsReadFailed};
 ghost use Rattle.dataset_load.specs.Listing.{IsListing};
-ghost use Rattle.dataset_load.specs.BadRounds.{IsBadRound, IsReady};
+ghost use Rattle.dataset_load.specs.BadRounds.{IsBadRound, IsListedAfter, IsReady};
 
 use crate::bad_round::{BadRound, ReadState};
 use crate::causes::load_failed;
@@ -175,8 +174,7 @@ pub fn load_terms<R: Threads + Wait + RandomSource, S: Source, G: Gate + Sync, L
     Ok(dict)
 }
 
-/// Reads a reader to its end, and numbers the quads of its lines. After a malformed line it lists the malformed lines. The
-/// quads of the lines before are dropped first.
+/// Reads a reader to its end, and numbers the quads of its lines. After a malformed line it lists the malformed lines.
 fn read_reader<R: Threads + Wait + RandomSource, S: Source, G: Gate + Sync, L: LoadListener>(
     context: &LoadContext<'_, R>,
     size: usize,
@@ -207,39 +205,61 @@ fn read_reader<R: Threads + Wait + RandomSource, S: Source, G: Gate + Sync, L: L
         mut so_far,
         mut blocks,
     } = fresh;
-    let mut rounds = ReadState::new(gate, listener);
+    let mut reading = ReadState::new(gate, listener);
     match number_rounds(
         context,
         state,
         &mut so_far,
         &mut blocks,
         reader,
-        &mut rounds,
+        &mut reading,
     ) {
         Ok(()) => {
             notes.is_read = true;
             Ok(so_far)
         }
         Err(ReaderFault::BadLine(line)) => {
-            let Some(bad) = rounds.bad else {
+            let Some(bad) = reading.bad else {
                 unreachable!();
             };
-            let is_after_utf8 = bad.is_after_utf8(&so_far.dict, line);
-            drop(so_far);
-            match list_rest(
+            Err(list_malformed(
                 context,
+                line,
                 bad,
-                is_after_utf8,
+                so_far,
                 &mut blocks,
                 reader,
                 notes,
                 listener,
-            ) {
-                Ok(()) => Err(ReaderFault::BadLine(line)),
-                Err(fault) => Err(ReaderFault::from(fault)),
-            }
+            ))
         }
         Err(fault) => Err(fault),
+    }
+}
+
+/// Lists the malformed lines of a reader, of which this line is the first, and returns why the reader is not loaded. The
+/// quads of the lines before are dropped first.
+fn list_malformed<R: Threads + Wait, S: Source, L: LoadListener>(
+    context: &LoadContext<'_, R>,
+    line: u128,
+    bad: BadRound,
+    so_far: Numbered,
+    blocks: &mut Blocks,
+    reader: &mut S,
+    notes: &mut LoadNotes,
+    listener: &L,
+) -> ReaderFault
+    requires ready { IsReady blocks.old bad }
+    ensures outcome { (start : _) → IsBadRound start (S.left reader.old) blocks.old.kept line bad
+        → IsListedAfter L.fails start (S.left reader.new) notes.new.malformed result }
+    ensures count { CountsLoading {T = ℕ} (S.failures reader.old) (S.failures reader.new) (Err result) }
+    ensures one_worker { IsOneWorkerReaderFault result }
+{
+    let is_after_utf8 = bad.is_after_utf8(&so_far.dict, line);
+    drop(so_far);
+    match list_rest(context, bad, is_after_utf8, blocks, reader, notes, listener) {
+        Ok(()) => ReaderFault::BadLine(line),
+        Err(fault) => ReaderFault::from(fault),
     }
 }
 
@@ -252,11 +272,10 @@ fn nothing_read<R: RandomSource>(rt: &R, alloc: Global, size: usize) -> Result<F
         fresh.blocks ≡ record { size = size; kept = []; state = BlockState.Reading }) }
 {
     let state = hash_state(rt)?;
-    let so_far = Numbered::new(alloc, state)?;
     let blocks = Blocks::new(alloc, size)?;
     Ok(Fresh {
         state,
-        so_far,
+        so_far: Numbered::new(alloc, state),
         blocks,
     })
 }
@@ -268,13 +287,13 @@ fn number_rounds<R: Threads + Wait, S: Source, G: Gate + Sync, L: LoadListener>(
     so_far: &mut Numbered,
     blocks: &mut Blocks,
     reader: &mut S,
-    rounds: &mut ReadState<'_, G, L>,
+    reading: &mut ReadState<'_, G, L>,
 ) -> Result<(), ReaderFault>
     requires reading { blocks.old.state ≡ BlockState.Reading }
     requires none { so_far.old.lines ≡ 0 }
     requires start { IsReadUpTo (S.left reader.old) (S.left reader.old) blocks.old.kept so_far.old }
     ensures read { OnOk result (IsReadFrom (S.left reader.old) (S.left reader.new) so_far.new) }
-    ensures bad_round { IfErr result (IfBadLineRead (λ n. IsSomeAnd rounds.new.bad
+    ensures bad_round { IfErr result (IfBadLineRead (λ n. IsSomeAnd reading.new.bad
         (λ bad. IsReady blocks.new bad × IsBadRound (S.left reader.old) (S.left reader.new)
         blocks.new.kept n bad))) }
     ensures taken { OnErr result (IsReadInPart (S.left reader.old) (S.left reader.new)) }
@@ -282,19 +301,16 @@ fn number_rounds<R: Threads + Wait, S: Source, G: Gate + Sync, L: LoadListener>(
     ensures one_worker { context.now.workers ≡ 1 → IfErr result IsOneWorkerReaderFault }
     ensures cause { IfErr result (IsCaused L.fails (S.left reader.old)) }
 {
-    let mut round = next_round(
-        context.alloc,
-        blocks,
-        reader,
-        context.workers,
-        rounds.listener,
-    )?;
+    let mut round = match next_round(context, blocks, reader, reading.listener) {
+        Ok(round) => round,
+        Err(fault) => return Err(ReaderFault::from(fault)),
+    };
     for _ in 0..MOST_ROUNDS {
-        let next = number_round(context, state, so_far, blocks, reader, rounds, round)?;
-        let Some(next) = next else {
-            return Ok(());
-        };
-        round = next;
+        match number_round(context, state, so_far, blocks, reader, reading, round) {
+            Ok(Some(next)) => round = next,
+            Ok(None) => return Ok(()),
+            Err(fault) => return Err(fault),
+        }
     }
     Err(ReaderFault::Memory)
 }
@@ -307,7 +323,7 @@ fn number_round<R: Threads + Wait, S: Source, G: Gate + Sync, L: LoadListener>(
     so_far: &mut Numbered,
     blocks: &mut Blocks,
     reader: &mut S,
-    rounds: &mut ReadState<'_, G, L>,
+    reading: &mut ReadState<'_, G, L>,
     round: RoundBlocks,
 ) -> Result<Option<RoundBlocks>, ReaderFault>
     requires few { length round.blocks.items ≤ most_pieces_of_a_round }
@@ -320,7 +336,7 @@ fn number_round<R: Threads + Wait, S: Source, G: Gate + Sync, L: LoadListener>(
         → IsReadAhead start (S.left reader.old) blocks.old.kept so_far.old round
         → MatchOption next (IsReadFrom start (S.left reader.new) so_far.new)
         (IsReadAhead start (S.left reader.new) blocks.new.kept so_far.new)) }
-    ensures bad_round { IfErr result (IfBadLineRead (λ n. IsSomeAnd rounds.new.bad
+    ensures bad_round { IfErr result (IfBadLineRead (λ n. IsSomeAnd reading.new.bad
         (λ bad. IsReady blocks.new bad × ((start : _)
         → IsReadAhead start (S.left reader.old) blocks.old.kept so_far.old round
         → IsBadRound start (S.left reader.new) blocks.new.kept n bad)))) }
@@ -335,23 +351,23 @@ fn number_round<R: Threads + Wait, S: Source, G: Gate + Sync, L: LoadListener>(
 {
     let before = so_far.lines;
     let is_last = round.is_last;
-    let (alloc, workers, listener) = (context.alloc, context.workers, rounds.listener);
+    let listener = reading.listener;
     let (added, next) = add_blocks(
         context,
         state,
         so_far,
         round.blocks.as_slice(),
-        rounds,
-        &mut || round_after(alloc, is_last, blocks, reader, workers, listener),
+        reading,
+        &mut || round_after(context, is_last, blocks, reader, listener),
     );
-    end_round(rounds, blocks, before, round, added, next)
+    end_round(reading, blocks, before, round, added, next)
 }
 
 /// Returns the round that was read while another was added, or the fault of one of the two. That of the read takes
 /// precedence, except over a worker that could not be started, where the read ran out of memory. A round with a malformed
 /// line is kept to be listed; otherwise the memory of its blocks is used again.
 fn end_round<G, L: LoadListener>(
-    rounds: &mut ReadState<'_, G, L>,
+    reading: &mut ReadState<'_, G, L>,
     blocks: &mut Blocks,
     before: u128,
     round: RoundBlocks,
@@ -364,12 +380,11 @@ fn end_round<G, L: LoadListener>(
     ensures next { IfOk result (λ round. next ≡ Ok round) }
     ensures added { OnOk result (IsOk added) }
     ensures bad_line { IfErr result (IfBadLineRead (λ n. added ≡ Err (BadLine n))) }
-    ensures bad_round { IfErr result (IfBadLineRead (λ n. IsSomeAnd rounds.new.bad
+    ensures bad_round { IfErr result (IfBadLineRead (λ n. IsSomeAnd reading.new.bad
         (λ bad. (bad.before ≡ before) × (bad.round ≡ round) × (next ≡ Ok bad.next)))) }
     ensures count { (old : _) (new : _) → CountsRead old new next → CountsLoading old new result }
     ensures one_worker { IfErr added IsOneWorkerLoadFault → IfErr result IsOneWorkerReaderFault }
     ensures cause { IfErr result (IsFailed L.fails) }
-    ensures same { IsOk next → IfErr added (λ fault. result ≡ Err (fault_of_load fault)) }
 {
     match next {
         Ok(next) => match added {
@@ -378,7 +393,7 @@ fn end_round<G, L: LoadListener>(
                 Ok(next)
             }
             Err(LoadFault::BadLine(line)) => {
-                rounds.bad = Some(BadRound {
+                reading.bad = Some(BadRound {
                     before,
                     round,
                     next,
@@ -402,7 +417,7 @@ fn add_blocks<R: Threads + Wait, G: Gate + Sync, L: LoadListener, F: FnMut() -> 
     state: RandomState,
     so_far: &mut Numbered,
     blocks: &[Vec<u8>],
-    rounds: &mut ReadState<'_, G, L>,
+    reading: &mut ReadState<'_, G, L>,
     task: &mut F,
 ) -> (Result<(), LoadFault>, T)
     requires blocks { length blocks.now ≤ most_pieces_of_a_round }
@@ -418,19 +433,17 @@ fn add_blocks<R: Threads + Wait, G: Gate + Sync, L: LoadListener, F: FnMut() -> 
     ensures task { F.step task.old result.1 task.new }
 {
     let Ok(pieces) = borrowed_blocks(context.alloc, blocks) else {
-        rounds.listener.failed(PoolFault::Memory);
+        reading.listener.failed(PoolFault::Memory);
         return (Err(LoadFault::Memory), task());
     };
-    let gate = rounds.offset_gate();
-    let (added, given) = add_round(
+    let gate = reading.next_gate(blocks.len());
+    add_round(
         context,
         state,
         so_far,
         pieces.as_slice(),
         &gate,
-        rounds.listener,
+        reading.listener,
         task,
-    );
-    rounds.pieces = rounds.pieces.saturating_add(blocks.len() as u64);
-    (added, given)
+    )
 }

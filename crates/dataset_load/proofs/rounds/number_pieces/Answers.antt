@@ -23,6 +23,6 @@ returns-clause-numbered g c =
 
 pub returns-in_err-added-clause-bad_line : goal.returns-in_err-added-clause-bad_line
 returns-in_err-added-clause-bad_line g c =
-    let p = err_from_is_err_and c.from_residual-in_err-added.result c.from_residual-in_err-added.ensures.1 in
+    let p = err_from_is_err_and c.from_residual.result c.from_residual.ensures.1 in
     rw (p.1, p.2) (bad_fault c.args.pieces.now c.part-round.result.now c.loop-from.from c.round_end-to.result c.loop-from.so_far _ (omega arith) c.part-round.ensures.value
     c.loop-from.invariant.read (rw c.in_err-added.was at c.add_round-added.ensures.bad_line))

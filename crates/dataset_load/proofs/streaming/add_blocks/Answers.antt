@@ -8,11 +8,11 @@ use Rattle.dataset_load.proofs.streaming.add_blocks.Goals as goal
 pub returns-clause-numbered : goal.returns-clause-numbered
 returns-clause-numbered g c =
     let same : texts c.as_slice.result.now ≡ block_texts c.args.blocks.now = ap texts c.as_slice.ensures.value ∙ c.in-Ok.ensures.texts in
-    subst (λ (ps : List (List ℕ)). OnOk c.add_round-added.result.0 ((before : List (List ℕ)) → HasRead c.args.so_far.now before → HasRead c.add_round-added.new.so_far (before ++ all_lines ps)))
-    same c.add_round-added.ensures.numbered
+    subst (λ (ps : List (List ℕ)). OnOk c.add_round.result.0 ((before : List (List ℕ)) → HasRead c.args.so_far.now before → HasRead c.add_round.new.so_far (before ++ all_lines ps)))
+    same c.add_round.ensures.numbered
 
 pub returns-clause-bad_line : goal.returns-clause-bad_line
 returns-clause-bad_line g c =
     let same : texts c.as_slice.result.now ≡ block_texts c.args.blocks.now = ap texts c.as_slice.ensures.value ∙ c.in-Ok.ensures.texts in
-    subst (λ (ps : List (List ℕ)). IfErr c.add_round-added.result.0 (IfBadLine (λ n. (before : List (List ℕ)) → HasRead c.args.so_far.now before → IsBadLine (before ++ all_lines ps) n)))
-    same c.add_round-added.ensures.bad_line
+    subst (λ (ps : List (List ℕ)). IfErr c.add_round.result.0 (IfBadLine (λ n. (before : List (List ℕ)) → HasRead c.args.so_far.now before → IsBadLine (before ++ all_lines ps) n)))
+    same c.add_round.ensures.bad_line

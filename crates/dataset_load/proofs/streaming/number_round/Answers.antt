@@ -47,7 +47,7 @@ returns-clause-taken g c = part_done _ _ c.args.blocks.now.kept c.args.so_far.no
 pub returns-clause-bad_round : goal.returns-clause-bad_round
 returns-clause-bad_round g c =
     bad_done _ _ c.args.blocks.now.kept c.end_round.new.blocks.kept c.args.so_far.now c.args.round c.add_blocks-added.result.1 (ended g c) (filled g c) (taken g c)
-    c.end_round.new.blocks c.add_blocks-added.result.0 c.end_round.result c.end_round.new.rounds.bad c.requires.countable c.requires.few (reading g c)
+    c.end_round.new.blocks c.add_blocks-added.result.0 c.end_round.result c.end_round.new.reading.bad c.requires.countable c.requires.few (reading g c)
     (rw c.as_slice.ensures.value at c.add_blocks-added.ensures.bad_line) c.end_round.ensures.bad_line c.end_round.ensures.bad_round
 
 pub returns-clause-spent : goal.returns-clause-spent

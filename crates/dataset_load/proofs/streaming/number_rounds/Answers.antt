@@ -1,12 +1,13 @@
-use Rattle.std.proofs.Common.{rules, arith, inr}
+use Rattle.std.proofs.Common.{◌+◌, rules, arith, inr}
+use Rattle.nquads_core.proofs.TransferSteps.{Stays-stays}
 use Rattle.dataset_load.specs.Rounds.{HasRead}
-use Rattle.dataset_load.proofs.LimitSteps.{long_start, spent_in, too_long}
+use Rattle.dataset_load.proofs.LimitSteps.{long_start, spent_in, spent_step, too_long}
 use Rattle.dataset_load.proofs.StreamingSteps.{ahead, part_so_far}
 use Rattle.dataset_load.proofs.streaming.number_rounds.Goals as goal
 
 pub loop-init : goal.loop-init
 loop-init g c =
-    let first = ahead (HasRead c.args.so_far.now) _ _ _ _ _ _ c.requires.start c.in_ok-round.ensures.round in
+    let first = ahead (HasRead c.args.so_far.now) _ _ _ _ _ _ c.requires.start c.in-Ok.ensures.round in
     record {
       state = search rules;
       countable = omega (arith, c.requires.none);
@@ -14,6 +15,20 @@ loop-init g c =
       spent = λ is. spent_in _ _ _ _ (first.more is).1;
       long = long_start _;
       failures = search rules;
+    }
+
+pub loop-preserved : goal.loop-preserved
+loop-preserved g c =
+    let was = c.loop.invariant in
+    let next = c.in-Ok-Some.ensures in
+    let spent = spent_step c.loop.counter (c.loop.counter + 1) _ _ _ _ _ c.loop.round c.in-Ok-Some.next (omega arith) was.spent (rw c.in-Ok-Some.field-0-is at next.spent) in
+    record {
+      state = rw c.in-Ok-Some.field-0-is at next.reading;
+      countable = omega (arith, was.countable, next.counted);
+      read = (rw c.in-Ok-Some.field-0-is at next.read) _ was.read;
+      spent = spent.0;
+      long = spent.1;
+      failures = Stays-stays _ _ _ was.failures next.count;
     }
 
 pub returns-clause-taken : goal.returns-clause-taken
