@@ -54,123 +54,136 @@ fn loss_of(kind: SiteKind, is_mixed: bool) -> (&'static str, &'static str) {
     }
 }
 
-/// Returns what the rows of a tally lose.
+/// Returns what the rows of a tally lose, given its first expression.
 fn consequence(
     alloc: Global,
-    text: &Text,
-    site: &Site,
+    outline: &Outline,
     tally: &Tally,
-    is_mixed: bool,
+    site: &Site,
 ) -> Result<String, AllocError> {
-    let (one, many) = loss_of(site.kind, is_mixed);
+    let (one, many) = loss_of(site.kind, is_mixed(outline, tally, site));
     let loss = if tally.rows == 1 { one } else { many };
     match site.variable {
         Some(at) => {
-            let variable = text.written(alloc, at)?;
+            let variable = outline.text.written(alloc, at)?;
             format!(in alloc; "{loss} {variable} unbound")
         }
         None => String::from_str(alloc, loss),
     }
 }
 
-/// Appends the IRI of a datatype, as `xsd:double` if it is one of XML Schema.
-fn push_datatype(out: &mut String, iri: &str) -> Result<(), AllocError> {
-    match iri.strip_prefix(XSD) {
-        Some(name) => write!(out, "xsd:{name}"),
-        None => write!(out, "<{iri}>"),
-    }
-}
-
-/// Appends the variable with this number in the plan.
-fn push_variable(
-    out: &mut String,
-    alloc: Global,
-    text: &Text,
-    number: usize,
-) -> Result<(), AllocError> {
-    match text.variable(alloc, number)? {
-        Some(at) => {
-            let variable = text.written(alloc, at)?;
-            out.push_str(variable.as_str())
-        }
-        None => Ok(()),
-    }
-}
-
-/// Appends the cause, as a reason.
-fn push_cause(
-    out: &mut String,
-    alloc: Global,
-    text: &Text,
-    cause: &Cause,
-) -> Result<(), AllocError> {
-    match cause {
-        Cause::Unbound(number) => {
-            push_variable(out, alloc, text, *number)?;
-            out.push_str(" is unbound")
-        }
-        Cause::SomeUnbound(number) => {
-            push_variable(out, alloc, text, *number)?;
-            out.push_str(" or another variable is unbound")
-        }
-        Cause::Call => out.push_str(
-            "LANG and DATATYPE have a value only for literals, and STR has none for blank nodes",
-        ),
-        Cause::NotLiteral => {
-            out.push_str("an IRI or a blank node has no order and no effective boolean value")
-        }
-        Cause::Tagged => out.push_str(
-            "a literal with a language tag has no order and no inequality by value (compare STR(..), or LANG(..))",
-        ),
-        Cause::Kinds => out.push_str(
-            "two literals of different kinds, such as a string and a number, have no order and no inequality by value (compare STR(..))",
-        ),
-        Cause::Datatype(iri) => {
-            out.push_str("values of ")?;
-            push_datatype(out, iri.as_str())?;
-            out.push_str(
-                " are not compared (compare STR(..), if the order of the texts is that of the values)",
-            )
-        }
-        Cause::IllFormed(iri) => {
-            out.push_str("the text of a literal is no ")?;
-            push_datatype(out, iri.as_str())
-        }
-        Cause::NoTruth(iri) => {
-            out.push_str("a literal of ")?;
-            push_datatype(out, iri.as_str())?;
-            out.push_str(" has no effective boolean value")
-        }
-    }
-}
-
-/// Returns the first expression of a tally, with the places of its FILTER or BIND in all expressions that the
-/// tally counts. Returns None if no place is known.
-fn places_of<'a>(
-    alloc: Global,
-    outline: &'a Outline,
-    tally: &Tally,
-) -> Result<Option<(&'a Site, String)>, AllocError> {
-    let mut places = String::new(alloc);
-    let mut first = None;
+/// Returns whether some of a tally's expressions are FILTERs in MINUS, and others are not.
+fn is_mixed(outline: &Outline, tally: &Tally, first: &Site) -> bool {
     for number in &tally.expressions {
         if let Some(site) = outline.sites.get(*number) {
-            if let Some(at) = site.keywords.get(tally.filter) {
-                places.push_str(if first.is_some() {
-                    ", "
-                } else {
-                    keyword_of(site)
-                })?;
-                let position = outline.text.position(*at);
-                write!(places, "{position}")?;
-                first = Some(first.unwrap_or(site));
+            if site.kind != first.kind {
+                return true;
             }
         }
     }
-    match first {
-        Some(site) => Ok(Some((site, places))),
-        None => Ok(None),
+    false
+}
+
+/// Returns the IRI of a datatype, as `xsd:double` if it is one of XML Schema.
+fn datatype(alloc: Global, iri: &str) -> Result<String, AllocError> {
+    match iri.strip_prefix(XSD) {
+        Some(name) => format!(in alloc; "xsd:{name}"),
+        None => format!(in alloc; "<{iri}>"),
     }
+}
+
+/// Returns the variable with this number in the plan.
+fn variable(alloc: Global, text: &Text, number: usize) -> Result<String, AllocError> {
+    match text.variable(alloc, number)? {
+        Some(at) => text.written(alloc, at),
+        None => Ok(String::new(alloc)),
+    }
+}
+
+/// Returns the variable or the datatype of a cause, or the empty text if it has none.
+fn subject(alloc: Global, text: &Text, cause: &Cause) -> Result<String, AllocError> {
+    match cause {
+        Cause::Unbound(number) | Cause::SomeUnbound(number) => variable(alloc, text, *number),
+        Cause::Datatype(iri) | Cause::IllFormed(iri) | Cause::NoTruth(iri) => {
+            datatype(alloc, iri.as_str())
+        }
+        Cause::Call | Cause::NotLiteral | Cause::Tagged | Cause::Kinds => Ok(String::new(alloc)),
+    }
+}
+
+/// Returns the words of a cause before and after its variable or datatype.
+fn words_of(cause: &Cause) -> (&'static str, &'static str) {
+    match cause {
+        Cause::Unbound(_) => ("", " is unbound"),
+        Cause::SomeUnbound(_) => ("", " or another variable is unbound"),
+        Cause::Call => (
+            "LANG and DATATYPE have a value only for literals, and STR has none for blank nodes",
+            "",
+        ),
+        Cause::NotLiteral => (
+            "an IRI or a blank node has no order and no effective boolean value",
+            "",
+        ),
+        Cause::Tagged => (
+            "a literal with a language tag has no order and no inequality by value (compare STR(..), or LANG(..))",
+            "",
+        ),
+        Cause::Kinds => (
+            "two literals of different kinds, such as a string and a number, have no order and no inequality by value (compare STR(..))",
+            "",
+        ),
+        Cause::Datatype(_) => (
+            "values of ",
+            " are not compared (compare STR(..), if the order of the texts is that of the values)",
+        ),
+        Cause::IllFormed(_) => ("the text of a literal is no ", ""),
+        Cause::NoTruth(_) => ("a literal of ", " has no effective boolean value"),
+    }
+}
+
+/// Returns the cause, as a reason.
+fn reason_of(alloc: Global, text: &Text, cause: &Cause) -> Result<String, AllocError> {
+    let (before, after) = words_of(cause);
+    let mut reason = String::from_str(alloc, before)?;
+    let subject = subject(alloc, text, cause)?;
+    reason.push_str(subject.as_str())?;
+    reason.push_str(after)?;
+    Ok(reason)
+}
+
+/// Returns the place of a tally's FILTER or BIND in the expression with this number, if it is known.
+fn keyword_at(outline: &Outline, tally: &Tally, number: usize) -> Option<usize> {
+    let site = outline.sites.get(number)?;
+    site.keywords.get(tally.filter).copied()
+}
+
+/// Returns the first expression of a tally whose place is known.
+fn first_site<'a>(outline: &'a Outline, tally: &Tally) -> Option<&'a Site> {
+    for number in &tally.expressions {
+        if keyword_at(outline, tally, *number).is_some() {
+            return outline.sites.get(*number);
+        }
+    }
+    None
+}
+
+/// Returns the places of a tally's FILTER or BIND in all expressions that it counts, after this word.
+fn places_of(
+    alloc: Global,
+    outline: &Outline,
+    tally: &Tally,
+    word: &'static str,
+) -> Result<String, AllocError> {
+    let mut places = String::new(alloc);
+    let mut before = word;
+    for number in &tally.expressions {
+        if let Some(at) = keyword_at(outline, tally, *number) {
+            let position = outline.text.position(at);
+            write!(places, "{before}{position}")?;
+            before = ", ";
+        }
+    }
+    Ok(places)
 }
 
 fn keyword_of(site: &Site) -> &'static str {
@@ -178,14 +191,6 @@ fn keyword_of(site: &Site) -> &'static str {
         SiteKind::Bind => "BIND at ",
         SiteKind::Filter | SiteKind::Removal | SiteKind::Optional => "FILTER at ",
     }
-}
-
-/// Returns whether some of a tally's expressions are FILTERs in MINUS, and others are not.
-fn is_mixed(outline: &Outline, tally: &Tally, first: &Site) -> bool {
-    tally.expressions.iter().any(|number| match outline.sites.get(*number) {
-        Some(site) => site.kind != first.kind,
-        None => false,
-    })
 }
 
 /// Returns the note for a tally. Returns None if its place is not known.
@@ -199,18 +204,28 @@ pub fn note_of(
 ) -> Result<Option<String>, AllocError>
     ensures note { IfOk result (λ found. IfSome found (λ s. IsNoteOf tally.now (string_bytes s))) }
 {
-    let Some((site, places)) = places_of(alloc, outline, tally)? else {
+    let Some(site) = first_site(outline, tally) else {
         return Ok(None);
     };
-    let is_mixed = is_mixed(outline, tally, site);
-    let loss = consequence(alloc, &outline.text, site, tally, is_mixed)?;
-    let mut reason = String::new(alloc);
-    push_cause(&mut reason, alloc, &outline.text, &tally.cause)?;
+    let places = places_of(alloc, outline, tally, keyword_of(site))?;
+    let loss = consequence(alloc, outline, tally, site)?;
+    let reason = reason_of(alloc, &outline.text, &tally.cause)?;
+    let note = note_with(alloc, tally, &places, &loss, &reason)?;
+    Ok(Some(note))
+}
+
+/// Returns the note for a tally with these places, this loss and this reason.
+fn note_with(
+    alloc: Global,
+    tally: &Tally,
+    places: &str,
+    loss: &str,
+    reason: &str,
+) -> Result<String, AllocError>
+    ensures note { IfOk result (λ s. IsNoteOf tally.now (string_bytes s)) }
+{
     let rows = tally.rows;
     let least = least_of(tally.is_partial);
     let noun = noun_of(rows);
-    let note = format!(in alloc;
-        "spq: note: {places}: {least}{rows} {noun} {loss}, since {reason}\n"
-    )?;
-    Ok(Some(note))
+    format!(in alloc; "spq: note: {places}: {least}{rows} {noun} {loss}, since {reason}\n")
 }

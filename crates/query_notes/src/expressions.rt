@@ -15,11 +15,12 @@ use std::alloc::{AllocError, Global};
 pub fn keys_of(alloc: Global, outline: &Outline, plan: &Plan) -> Result<Vec<Key>, AllocError>
     ensures keys { IfOk result (λ keys. All (IsKeyOf outline.now.sites.items) keys.items) }
 {
-    let digests = digests(alloc, &plan.tree)?;
+    let mut digests = Vec::new(alloc);
+    push_digests(&mut digests, alloc, &plan.tree)?;
     let mut keys = Vec::new(alloc);
     for number in 0..outline.sites.len().min(digests.len()) {
         keys.push(Key {
-            digest: digests[digests.len() - 1 - number],
+            digest: digests[number],
             expression: number,
             filters: outline.sites[number].keywords.len(),
         })?;
@@ -27,36 +28,37 @@ pub fn keys_of(alloc: Global, outline: &Outline, plan: &Plan) -> Result<Vec<Key>
     Ok(keys)
 }
 
-/// Returns the digests of the expressions of a tree, from the last to the first: an operator's own
-/// expression is before those of its right side, and these are before those of its left side.
-fn digests(alloc: Global, tree: &Operator) -> Result<Vec<u64>, AllocError> {
-    let mut digests = Vec::new(alloc);
-    let mut rest = Vec::new(alloc);
-    rest.push(tree)?;
-    for _ in 0..u64::MAX {
-        let Some(operator) = rest.pop() else {
-            break;
-        };
-        push_own(&mut digests, alloc, operator)?;
-        push_inputs(&mut rest, operator)?;
+/// Appends the digests of the expressions of a tree: those of an operator's left side, those of its right
+/// side, and that of its own.
+fn push_digests(digests: &mut Vec<u64>, alloc: Global, tree: &Operator) -> Result<(), AllocError> {
+    match tree {
+        Operator::Join { left, right }
+        | Operator::LeftJoin { left, right, .. }
+        | Operator::Union { left, right }
+        | Operator::Minus { left, right } => {
+            push_digests(digests, alloc, left)?;
+            push_digests(digests, alloc, right)?;
+        }
+        Operator::Graph { inner, .. }
+        | Operator::Filter { inner, .. }
+        | Operator::Extend { inner, .. }
+        | Operator::Project { inner, .. }
+        | Operator::Distinct { inner } => push_digests(digests, alloc, inner)?,
+        Operator::Pattern { .. } | Operator::Table { .. } => {}
     }
-    Ok(digests)
+    push_own(digests, alloc, tree)
 }
 
 /// Appends the digest of an operator's own expression, if it has one.
 fn push_own(digests: &mut Vec<u64>, alloc: Global, operator: &Operator) -> Result<(), AllocError> {
-    match operator {
-        Operator::LeftJoin { condition, .. } => {
-            digests.push(digest_of(alloc, Owner::LeftJoin, condition)?)?;
-        }
-        Operator::Filter { condition, .. } => {
-            digests.push(digest_of(alloc, Owner::Filter, condition)?)?;
-        }
+    let (owner, expression) = match operator {
+        Operator::LeftJoin { condition, .. } => (Owner::LeftJoin, condition),
+        Operator::Filter { condition, .. } => (Owner::Filter, condition),
         Operator::Extend {
             variable,
             expression,
             ..
-        } => digests.push(digest_of(alloc, Owner::Extend(*variable), expression)?)?,
+        } => (Owner::Extend(*variable), expression),
         Operator::Pattern { .. }
         | Operator::Join { .. }
         | Operator::Union { .. }
@@ -64,27 +66,8 @@ fn push_own(digests: &mut Vec<u64>, alloc: Global, operator: &Operator) -> Resul
         | Operator::Graph { .. }
         | Operator::Project { .. }
         | Operator::Distinct { .. }
-        | Operator::Table { .. } => {}
-    }
-    Ok(())
-}
-
-/// Appends the inputs of an operator, the right one last.
-fn push_inputs<'a>(rest: &mut Vec<&'a Operator>, operator: &'a Operator) -> Result<(), AllocError> {
-    match operator {
-        Operator::Join { left, right }
-        | Operator::LeftJoin { left, right, .. }
-        | Operator::Union { left, right }
-        | Operator::Minus { left, right } => {
-            rest.push(left)?;
-            rest.push(right)?;
-        }
-        Operator::Graph { inner, .. }
-        | Operator::Filter { inner, .. }
-        | Operator::Extend { inner, .. }
-        | Operator::Project { inner, .. }
-        | Operator::Distinct { inner } => rest.push(inner)?,
-        Operator::Pattern { .. } | Operator::Table { .. } => {}
-    }
+        | Operator::Table { .. } => return Ok(()),
+    };
+    digests.push(digest_of(alloc, owner, expression)?)?;
     Ok(())
 }

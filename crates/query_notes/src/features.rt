@@ -44,12 +44,15 @@ pub fn push_variables(
     Ok(())
 }
 
-/// Returns the first places of the variables that are never bound, in the order of the text.
-fn unbound_variables(alloc: Global, outline: &Outline) -> Result<Vec<(usize, Reason)>, AllocError> {
+/// Returns the first places of the variables that are never bound, in the order of the text, with the reasons.
+fn unbound_variables(
+    alloc: Global,
+    outline: &Outline,
+) -> Result<Vec<(usize, &'static str)>, AllocError> {
     let start = group_start(&outline.text);
     let mut unbound = Vec::new(alloc);
-    for occurrences in places_by_name(alloc, &outline.text)? {
-        if let Some(variable) = unbound_at(&occurrences, outline, start) {
+    for places in &outline.text.places_by_name(alloc)? {
+        if let Some(variable) = unbound_at(places, outline, start) {
             unbound.push(variable)?;
         }
     }
@@ -57,64 +60,46 @@ fn unbound_variables(alloc: Global, outline: &Outline) -> Result<Vec<(usize, Rea
     Ok(unbound)
 }
 
-/// Returns the places of each variable, in the order of the text.
-fn places_by_name(alloc: Global, text: &Text) -> Result<Vec<Vec<usize>>, AllocError> {
-    let sorted = text.sorted_variables(alloc)?;
-    let mut names: Vec<Vec<usize>> = Vec::new(alloc);
-    let mut last: &[char] = &[];
-    for (name, at) in &sorted {
-        if *name != last {
-            names.push(Vec::new(alloc))?;
-            last = name;
-        }
-        if let Some(places) = names.last_mut() {
-            places.push(*at)?;
-        }
-    }
-    Ok(names)
+/// Returns whether the variable at a place is one of a pattern, VALUES or BIND, in the query's group, which begins at
+/// `start`.
+fn is_bound_at(at: usize, outline: &Outline, start: usize) -> bool {
+    at > start && outline.variables.binary_search(&at).is_err()
 }
 
-/// Why a variable is never bound.
-#[derive(Clone, Copy, PartialEq, Eq, PartialOrd, Ord)]
-enum Reason {
-    /// It is only selected.
-    Selected,
-    /// It occurs once, in an expression.
-    Once,
-    /// It occurs only in expressions.
-    InExpressions,
+/// Returns the first of these places in the query's group.
+fn first_after(places: &[usize], start: usize) -> Option<usize> {
+    for at in places {
+        if *at > start {
+            return Some(*at);
+        }
+    }
+    None
 }
 
 /// Returns the first of a variable's places in the group, or its first place if none is there, with
 /// the reason why the variable is never bound. Returns None if a pattern, VALUES or BIND has it.
-fn unbound_at(places: &[usize], outline: &Outline, start: usize) -> Option<(usize, Reason)> {
-    let mut first = None;
+fn unbound_at(places: &[usize], outline: &Outline, start: usize) -> Option<(usize, &'static str)> {
     for at in places {
-        if *at > start {
-            if outline.variables.binary_search(at).is_err() {
-                return None;
-            }
-            first = Some(first.unwrap_or(*at));
+        if is_bound_at(*at, outline, start) {
+            return None;
         }
     }
-    match first {
-        Some(at) if places.len() == 1 => Some((at, Reason::Once)),
-        Some(at) => Some((at, Reason::InExpressions)),
-        None => Some((*places.first()?, Reason::Selected)),
+    match first_after(places, start) {
+        Some(at) if places.len() == 1 => Some((at, "occurs nowhere else, so it is never bound")),
+        Some(at) => Some((at, "occurs only in expressions, so it is never bound")),
+        None => Some((
+            *places.first()?,
+            "is selected and occurs nowhere in the pattern",
+        )),
     }
 }
 
 /// Returns the note on a variable that is never bound.
-fn unbound_note(alloc: Global, text: &Text, at: usize, reason: Reason) -> Result<String, AllocError>
+fn unbound_note(alloc: Global, text: &Text, at: usize, reason: &str) -> Result<String, AllocError>
     ensures note { IfOk result (λ note. IsNote (string_bytes note)) }
 {
     let variable = text.written(alloc, at)?;
     let place = text.position(at);
-    let reason = match reason {
-        Reason::Selected => "is selected and occurs nowhere in the pattern",
-        Reason::Once => "occurs nowhere else, so it is never bound",
-        Reason::InExpressions => "occurs only in expressions, so it is never bound",
-    };
     let words = format!(in alloc; "{variable} at {place} {reason}")?;
     note(alloc, words.as_str())
 }
@@ -257,7 +242,7 @@ fn is_bound_to_tag(text: &Text, at: usize) -> bool {
 fn is_tag(places: &[usize], outline: &Outline, start: usize) -> bool {
     let mut is_bound = false;
     for at in places {
-        if *at > start && outline.variables.binary_search(at).is_err() {
+        if is_bound_at(*at, outline, start) {
             if !is_bound_to_tag(&outline.text, *at) {
                 return false;
             }
@@ -280,17 +265,29 @@ pub fn push_tags(
     requires notes { All (λ note. IsNote (string_bytes note)) notes.old.items }
     ensures notes { OnOk result (All (λ note. IsNote (string_bytes note)) notes.new.items) }
 {
-    let text = &outline.text;
-    let mut tags = Vec::new(alloc);
-    for at in 0..text.terminals.len() {
-        if is_keyword(text, at, Keyword::Lang) {
-            add_tags(&mut tags, text, call_at(text, at))?;
-        }
+    let tags = all_tags(alloc, outline)?;
+    for tag in &tags {
+        notes.push(tag_note(alloc, &outline.text, *tag)?)?;
     }
+    Ok(())
+}
+
+/// Returns the places of the language tags with capitals that LANG is compared with, or a variable that is
+/// bound to a LANG, in the order of the text.
+fn all_tags(alloc: Global, outline: &Outline) -> Result<Vec<usize>, AllocError> {
+    let mut tags = Vec::new(alloc);
+    add_called_tags(&mut tags, &outline.text)?;
     add_bound_tags(&mut tags, alloc, outline)?;
     tags.sort()?;
-    for tag in &tags {
-        notes.push(tag_note(alloc, text, *tag)?)?;
+    Ok(tags)
+}
+
+/// Adds the places of the language tags with capitals that LANG is compared with.
+fn add_called_tags(tags: &mut Vec<usize>, text: &Text) -> Result<(), AllocError> {
+    for at in 0..text.terminals.len() {
+        if is_keyword(text, at, Keyword::Lang) {
+            add_tags(tags, text, call_at(text, at))?;
+        }
     }
     Ok(())
 }
@@ -302,16 +299,22 @@ fn add_bound_tags(
     outline: &Outline,
 ) -> Result<(), AllocError> {
     let start = group_start(&outline.text);
-    for places in &places_by_name(alloc, &outline.text)? {
+    for places in &outline.text.places_by_name(alloc)? {
         if is_tag(places, outline, start) {
-            for at in places {
-                let operand = Operand {
-                    first: *at,
-                    last: *at,
-                };
-                add_tags(tags, &outline.text, operand)?;
-            }
+            add_tags_of(tags, &outline.text, places)?;
         }
+    }
+    Ok(())
+}
+
+/// Adds the places of the language tags with capitals that a variable with these places is compared with.
+fn add_tags_of(tags: &mut Vec<usize>, text: &Text, places: &[usize]) -> Result<(), AllocError> {
+    for at in places {
+        let operand = Operand {
+            first: *at,
+            last: *at,
+        };
+        add_tags(tags, text, operand)?;
     }
     Ok(())
 }

@@ -7,7 +7,7 @@ use sparql_lexer::{Keyword, Kind, Sign};
 use std::alloc::{AllocError, Global};
 
 /// What an expression is for.
-#[derive(Clone, Copy, Debug, PartialEq, Eq)]
+#[derive(Clone, Copy, PartialEq, Eq)]
 pub enum SiteKind {
     /// The FILTERs of a group.
     Filter,
@@ -73,7 +73,7 @@ enum Opening {
 }
 
 /// Which part of a group comes next.
-#[derive(Clone, Copy, PartialEq, Eq)]
+#[derive(Clone, Copy)]
 enum Part {
     Patterns,
     /// The name after GRAPH.

@@ -9,7 +9,7 @@ use sparql_lexer::{Kind, characters_of, scan_text, text_of};
 use std::alloc::{AllocError, Global};
 
 /// A terminal of a query, with the number of characters before it and up to its end.
-#[derive(Clone, Copy, Debug)]
+#[derive(Clone, Copy)]
 pub struct Terminal {
     pub kind: Kind,
     pub start: usize,
@@ -125,6 +125,21 @@ impl Text {
         Ok(found)
     }
 
+    /// Returns the places of each variable, in the order of the text. The variables are sorted by name.
+    ///
+    /// # Errors
+    /// `AllocError` if an allocation fails.
+    pub(crate) fn places_by_name(&self, alloc: Global) -> Result<Vec<Vec<usize>>, AllocError> {
+        let sorted = self.sorted_variables(alloc)?;
+        let mut names = Vec::new(alloc);
+        let mut last: &[char] = &[];
+        for (name, at) in &sorted {
+            push_place(&mut names, alloc, *at, *name != last)?;
+            last = name;
+        }
+        Ok(names)
+    }
+
     /// Returns the first occurrence of the variable with this number in the plan: variables are
     /// numbered in the order of their first occurrences.
     ///
@@ -135,16 +150,27 @@ impl Text {
         alloc: Global,
         number: usize,
     ) -> Result<Option<usize>, AllocError> {
-        let sorted = self.sorted_variables(alloc)?;
-        let mut firsts = Vec::new(alloc);
-        let mut last: &[char] = &[];
-        for (name, at) in &sorted {
-            if *name != last {
-                firsts.push(*at)?;
-                last = name;
-            }
+        let mut names = self.places_by_name(alloc)?;
+        names.sort()?;
+        match names.get(number) {
+            Some(places) => Ok(places.first().copied()),
+            None => Ok(None),
         }
-        firsts.sort()?;
-        Ok(firsts.get(number).copied())
+    }
+}
+
+/// Appends a place to the last list, or to a new one.
+fn push_place(
+    names: &mut Vec<Vec<usize>>,
+    alloc: Global,
+    at: usize,
+    is_new: bool,
+) -> Result<(), AllocError> {
+    if is_new {
+        names.push(Vec::new(alloc))?;
+    }
+    match names.last_mut() {
+        Some(places) => Ok(places.push(at)?),
+        None => Ok(()),
     }
 }
