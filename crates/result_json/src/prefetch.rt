@@ -61,7 +61,7 @@ pub(crate) fn looked_up<'a>(
     ensures ahead { IfOk result (λ made.
         AreAhead texts.now (places_of columns.now) (ranks_of rows.now) (all_texts made.items)) }
 {
-    let mut ahead = Vec::new(alloc);
+    let mut ahead = Vec::with_capacity(alloc, columns.len())?;
     for (_prefix, place) in columns {
         ahead.push(look_up(alloc, *place, texts, rows)?)?;
     }
