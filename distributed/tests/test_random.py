@@ -7,7 +7,7 @@ from concurrent.futures import ThreadPoolExecutor
 import documents
 from testing import file, spq, spq_dask
 
-COUNT = 200
+COUNT = 100
 SPLITS = ["--split lines", "--split subject", "--split graph", "--split graph --replicate-default-graph"]
 
 
@@ -45,4 +45,4 @@ class Random(unittest.TestCase):
         kinds = Counter(kind for _, kind in results)
         print(dict(sorted(kinds.items())))
         for split in SPLITS:
-            self.assertGreater(kinds[f"{split}: status 0, with rows"], 8)
+            self.assertGreater(kinds[f"{split}: status 0, with rows"], 4)
