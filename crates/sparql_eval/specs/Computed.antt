@@ -1,7 +1,7 @@
 -- The terms that an evaluation adds to a dictionary. They are those that occur in VALUES, and the
 -- values that Extend computes (SPARQL 1.1 Query Language, section 18.5). This is a guarantee of
 -- this project.
-use Rattle.std.specs.Prelude.{◌≡◌, ◌⊎◌, ℕ, true, List, Option, None, Some, map, length, take, Contains}
+use Rattle.std.specs.Prelude.{◌≡◌, ◌⊎◌, ℕ, true, List, Option, Some, map, length, take, Contains}
 use Rattle.std.specs.List.{flat_map, list_any}
 use Rattle.rdf_core.specs.declared.term.Term.{Term}
 use Rattle.rdf_core.specs.QuadParts.{QuadParts}

@@ -1,6 +1,6 @@
 -- Solutions in which the terms of paired variables have one key. A condition that requires the terms,
 -- or their texts, to be equal is true of no other solution. Only private clauses use these definitions.
-use Rattle.std.specs.Prelude.{◌≡◌, ℕ, Bool, true, ◌&&◌, ◌||◌, List, Option, None, Some, filter, get_or, is_some, length, nat_eq}
+use Rattle.std.specs.Prelude.{◌≡◌, ℕ, Bool, true, ◌&&◌, ◌||◌, List, Option, None, Some, filter, get_or, is_some, nat_eq}
 use Rattle.std.specs.List.{list_all}
 use Rattle.std.specs.Option.{option_eq}
 use Rattle.rdf_core.specs.declared.term.Term.{Term}

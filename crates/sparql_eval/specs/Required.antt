@@ -1,6 +1,6 @@
 -- Variables whose terms have one key wherever a condition is true. Only private clauses use these
 -- definitions.
-use Rattle.std.specs.Prelude.{◌≡◌, ℕ, true, List, [], ◌∷◌, Option, None, Some, get_or}
+use Rattle.std.specs.Prelude.{◌≡◌, ℕ, true, List, Option, None, Some, get_or}
 use Rattle.rdf_core.specs.declared.term.Term.{Term}
 use Rattle.algebra_model.specs.Expression.{Expression, holds, val, variable}
 use Rattle.algebra_model.specs.Renaming.{Each}
