@@ -1,8 +1,6 @@
 -- The counts of the parts, added up.
-use Rattle.std.proofs.Common.{◌≡◌, ℕ, suc, ◌+◌, ◌<◌, ◌≤◌, List, [], length, slice_index_or, nat_eq, ap, sym, ◌∙◌, subst, arith}
-use Rattle.algebra_model.specs.Bag.{without_repeats}
+use Rattle.std.proofs.Common.{◌≡◌, ℕ, suc, ◌+◌, ◌<◌, ◌≤◌, List, length, slice_index_or, ap, sym, ◌∙◌, subst, arith}
 use Rattle.dict_core.specs.declared.num_quad.NumQuad.{NumQuad}
-use Rattle.quad_index.specs.Matching.{graph_names}
 use Rattle.quad_index.specs.Parts.{count_in_part, parts, sum_below}
 use Rattle.quad_index.proofs.PartLaws.{parts_within, sum_more}
 use Rattle.dataset_load.specs.PartCounts.{AreCounts, count_at}

@@ -1,4 +1,4 @@
-use Rattle.std.proofs.Common.{◌+◌, ◌≤◌, ◌<◌, length, arith, sym, subst}
+use Rattle.std.proofs.Common.{◌<◌, length, arith, sym, subst}
 use Rattle.nquads_core.specs.Lines.{lines}
 use Rattle.malformed_lines.specs.Malformed.{IsListOf}
 use Rattle.malformed_lines.specs.declared.piece_list.PieceList.{PieceList}

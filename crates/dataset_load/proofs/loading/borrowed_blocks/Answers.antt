@@ -1,4 +1,4 @@
-use Rattle.std.proofs.Common.{◌≤◌, length, arith}
+use Rattle.std.proofs.Common.{arith}
 use Rattle.dataset_load.proofs.ReaderSteps.{borrowed_more, pushed_piece}
 use Rattle.dataset_load.proofs.loading.borrowed_blocks.Goals as goal
 

@@ -1,4 +1,4 @@
-use Rattle.std.proofs.Common.{◌≡◌, ◌+◌, ◌*◌, length, take, ap, ◌∙◌, arith}
+use Rattle.std.proofs.Common.{◌+◌, ◌*◌, take, ap, ◌∙◌, arith}
 use Rattle.dict_core.specs.Appearances.{first_appearances}
 use Rattle.dataset_load.specs.Terms.{terms_of_a_part}
 use Rattle.dataset_load.proofs.TermSteps.{all_joined}
