@@ -159,15 +159,22 @@ pub fn closes_iri(text: &[u8]) -> bool {
     }
 }
 
+/// Returns the text before the first byte with this value, and the text from it on. Returns None if there is none.
+fn split_before(text: &[u8], mark: u8) -> Option<(&[u8], &[u8])> {
+    let end = text.iter().position(|byte| *byte == mark)?;
+    Some((&text[..end], &text[end..]))
+}
+
 /// Returns whether a text begins with an attribute of an XML tag, such as `xmlns:ex="..`, perhaps after white space.
 pub fn is_attribute(text: &[u8]) -> bool {
-    let text = text.trim_ascii_start();
-    let Some(end) = text.iter().position(|byte| *byte == b'=') else {
+    let Some((name, rest)) = split_before(text.trim_ascii_start(), b'=') else {
         return false;
     };
-    let mut name = text[..end].iter();
-    let is_quoted = matches!(text.get(end + 1).copied(), Some(b'"' | b'\''));
-    end > 0 && is_quoted && name.all(|byte| is_prefix_byte(*byte) || *byte == b':')
+    !name.is_empty()
+        && (rest.starts_with(b"=\"") || rest.starts_with(b"='"))
+        && name
+            .iter()
+            .all(|byte| is_prefix_byte(*byte) || *byte == b':')
 }
 
 /// Returns whether a text has an end tag of XML.
@@ -177,18 +184,19 @@ pub fn has_end_tag(text: &[u8]) -> bool {
 
 /// Returns whether a text that follows `<` is the rest of an end tag of XML, and of the line.
 pub fn is_end_tag(text: &[u8]) -> bool {
-    let end = text.iter().position(|byte| *byte == b'>');
-    text.starts_with(b"/") && end == text.trim_ascii_end().len().checked_sub(1)
+    match split_before(text, b'>') {
+        Some((name, end)) => name.starts_with(b"/") && end.trim_ascii_end().len() == 1,
+        None => false,
+    }
 }
 
 /// Returns whether a text begins with an IRI without its angle brackets, such as `http://..`.
 pub fn is_bare_iri(text: &[u8]) -> bool {
-    match text.iter().position(|byte| *byte == b':') {
-        Some(colon) => {
-            let mut scheme = text[..colon].iter();
-            colon > 0
-                && scheme.all(|byte| byte.is_ascii_alphanumeric())
-                && text[colon..].starts_with(b"://")
+    match split_before(text, b':') {
+        Some((scheme, rest)) => {
+            !scheme.is_empty()
+                && scheme.iter().all(|byte| byte.is_ascii_alphanumeric())
+                && rest.starts_with(b"://")
         }
         None => false,
     }
@@ -207,14 +215,14 @@ fn begins_local_part(byte: u8) -> bool {
 
 /// Returns what follows the prefix and the colon that a text begins with.
 fn after_prefix(text: &[u8]) -> Option<&[u8]> {
-    let colon = text.iter().position(|byte| *byte == b':')?;
-    let mut prefix = text[..colon].iter();
+    let (prefix, rest) = split_before(text, b':')?;
     let begins_well =
-        !matches!(text.first(), Some(byte) if byte.is_ascii_digit() || matches!(*byte, b'-' | b'.'));
-    if begins_well && prefix.all(|byte| is_prefix_byte(*byte)) {
-        return Some(&text[colon + 1..]);
+        !matches!(prefix.first(), Some(byte) if byte.is_ascii_digit() || matches!(*byte, b'-' | b'.'));
+    if begins_well && prefix.iter().all(|byte| is_prefix_byte(*byte)) {
+        rest.get(1..)
+    } else {
+        None
     }
-    None
 }
 
 /// Returns whether a text begins with a prefixed name that has a local part, such as `ex:a`.
