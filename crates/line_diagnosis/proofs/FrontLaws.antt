@@ -234,6 +234,15 @@ record Longer (front back ps tail : List ℕ) : Type 0 where
 cons_parts : (a b : ℕ) (xs ys : List ℕ) → ◌≡◌ {A = List ℕ} (a ∷ xs) (b ∷ ys) → (a ≡ b) × (xs ≡ ys)
 cons_parts a b xs ys e = (cc, cc)
 
+-- the same after one character that both have
+longer_after : {f c : ℕ} {front back ps tail : List ℕ} → f ≡ c → Longer front back ps tail → Longer (f ∷ front) back (c ∷ ps) tail
+longer_after {f} {c} {front} {back} {ps} {tail} e m = record {
+  c = m.c;
+  others = m.others;
+  longer = ap (λ (y : List ℕ). c ∷ y) m.longer ∙ ap (λ (x : ℕ). x ∷ front ++ m.c ∷ m.others) (sym e);
+  next = m.next;
+}
+
 longer : (front back ps tail : List ℕ) → front ++ back ≡ ps ++ tail → length (encode_utf8_all front) < length (encode_utf8_all ps) → Longer front back ps tail
 longer [] back [] tail e l = absurd (omega arith)
 longer [] back (c ∷ ps) tail e l = record { c = c; others = ps; longer = refl; next = e }
@@ -241,8 +250,8 @@ longer (f ∷ front) back [] tail e l = absurd (omega arith)
 longer (f ∷ front) back (c ∷ ps) tail e l =
     let p = cons_parts f c (front ++ back) (ps ++ tail) e in
     let size : length (encode f) ≡ length (encode c) = ap (λ (x : ℕ). length (encode x)) p.0 in
-    let ih = longer front back ps tail p.1 (omega (arith, size, l, length-append (encode f) (encode_utf8_all front), length-append (encode c) (encode_utf8_all ps))) in
-    record { c = ih.c; others = ih.others; longer = ap (λ (y : List ℕ). c ∷ y) ih.longer ∙ ap (λ (x : ℕ). x ∷ front ++ ih.c ∷ ih.others) (sym p.0); next = ih.next }
+    longer_after p.0
+    (longer front back ps tail p.1 (omega (arith, size, l, length-append (encode f) (encode_utf8_all front), length-append (encode c) (encode_utf8_all ps))))
 
 in_text : (line text : List ℕ) (n : ℕ) → IsLongestText line text → n ≤ length line → IsUtf8 (take n line) → n ≤ length text
 in_text line text n t l u = elim (cases_lt (length text) n) [
