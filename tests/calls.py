@@ -4,11 +4,11 @@ import functools
 import os
 import re
 
-from sources import GHOST_MEMBER, ROOT, crates, mutants, sources_of
+from sources import GHOST_MEMBER, ROOT, crates, mutants, prover_path, sources_of
 
-# The programs, and crates for tests: none of them offers a public call.
+# The programs, and the crate of tests: none of them offers a public call.
 PROGRAMS = {it for it in crates() if not os.path.exists(f"{ROOT}/crates/{it}/src/lib.rt")}
-INNER = PROGRAMS | {"test_fixtures"} | {it for it in crates() if it.endswith("_tests")}
+INNER = PROGRAMS | {it for it in crates() if it.endswith("_tests")}
 # Methods whose names standard types have too: a call counts only on a receiver with one of these names.
 RECEIVERS = {
     "Term": "term", "Pass": "pass|a|b", "Dict": "dict|dictionary", "Rows": "rows|left|right", "Source": "source|reader|device",
@@ -192,10 +192,11 @@ def calls_it(source, text, crate, call):
 
 @functools.lru_cache(maxsize=None)
 def tests_of(crate):
-    """Returns the tests of a crate with the functions that each reaches."""
+    """Returns the tests of a crate, under the names by which they are run, with the functions that each reaches."""
     place = {it: source for source in code_of(crate) for it in source.functions}
     tests = [(source, it) for it, source in place.items() if source.is_test(it)]
-    return [(it.name, [(place[other], other) for other in reached(crate, [(source, it)])]) for source, it in tests]
+    named = [(prover_path(sources_of(crate), source.path, it), source, it) for source, it in tests]
+    return [(name, [(place[other], other) for other in reached(crate, [(source, it)])]) for name, source, it in named]
 
 
 @functools.lru_cache(maxsize=None)
@@ -271,7 +272,7 @@ def shared_mutants(crate, path):
 @functools.lru_cache(maxsize=None)
 def implementers(trait):
     """Returns the types that implement a trait of the repository, outside of programs, with their crates."""
-    places = [(crate, source) for crate in crates() if crate not in INNER or crate.startswith("test_") or crate.endswith("_tests") for source in code_of(crate)]
+    places = [(crate, source) for crate in crates() if crate not in INNER or crate.endswith("_tests") for source in code_of(crate)]
     return sorted({(crate, it.name) for crate, source in places for it in source.items if it.kind == "impl" and it.trait == trait})
 
 

@@ -113,9 +113,9 @@ def name_faults():
     """Returns a line for each mutant or test that docs/MUTANTS.md names and that does not exist."""
     page = read("docs/MUTANTS.md")
     known = {f"{it.crate}/{it.name}" for it in mutants()}
-    tests = {f"{crate}::{name}" for crate in crates() if crate.endswith("_tests") for name, _ in calls.tests_of(crate)}
+    tests = {name for crate in crates() if crate.endswith("_tests") for name, _ in calls.tests_of(crate)}
     faults = [f"docs/MUTANTS.md: there is no mutant {it}" for it in re.findall(r"`(\w+/\w+)`", page) if it not in known]
-    return faults + [f"docs/MUTANTS.md: there is no test {it}" for it in re.findall(r"`(\w+_tests::\w+)`", page) if it not in tests]
+    return faults + [f"docs/MUTANTS.md: there is no test {it}" for it in re.findall(r"`(\w+(?:::\w+)+)`", page) if it not in tests]
 
 
 def definition_faults():
@@ -136,7 +136,7 @@ def known_faults():
 
 
 def diagram_faults():
-    """Returns a line for each crate that the diagram does not show, and one if it is not drawn anew. Test crates are not shown."""
+    """Returns a line for each crate that the diagram does not show, and one if it is not drawn anew. The crate of tests is not shown."""
     drawn = set(re.findall(r"\w+", diagram.svg()))
     faults = [f"tests/diagram.py: the crate {it} is missing" for it in crates() if it not in drawn and it not in calls.INNER - calls.PROGRAMS]
     return faults if read(diagram.DIAGRAM) == diagram.svg() else faults + [f"{diagram.DIAGRAM}: is not what tests/diagram.py draws"]

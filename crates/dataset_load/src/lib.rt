@@ -22,7 +22,7 @@
 //! `reader_fault`, `part_counts`, `counted`, `load_notes`, `load_context`, `causes`, `listing` and `rest` (the malformed lines), `bad_round`,
 //! `streaming`.
 //!
-//! Tests: `readers` and `refusals` of the crate loading_tests, and the files tests/examples/document_*.toml.
+//! Tests: `loading::readers` and `loading::refusals` of spq_tests, and the files tests/examples/document_*.toml.
 //!
 //! ```text
 //! let cuts = Cuts::every(alloc, doc, 65536)?;

@@ -5,8 +5,8 @@
 //! in order. The merged dictionary has exactly the terms of the quads, by first appearance. The numbered quads, read
 //! through it, are the quads (`IsNumbered` in specs/Numbered.antt).
 //!
-//! The law `absorbing_keeps_the_numbering` says that consecutive pieces may be merged in any groups. The crate
-//! `loading_tests` tests these calls.
+//! The law `absorbing_keeps_the_numbering` says that consecutive pieces may be merged in any groups. Tests:
+//! `loading::refusals::dictionary` of spq_tests.
 //!
 //! Standard: RDF 1.1 Concepts and Abstract Syntax, section 3 (when two terms are the same). The numbers are a
 //! choice of this project.

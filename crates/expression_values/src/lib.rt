@@ -14,7 +14,7 @@
 //! Standard: SPARQL 1.1 Query Language, section 17. The crate algebra_model states its definitions.
 //!
 //! Reading order: `expression` (the tree), `lookup` (rows), `held` (intermediate values),
-//! `evaluation`, `condition`. Tests: `values` of the crate query_tests, and
+//! `evaluation`, `condition`. Tests: `query::values` of spq_tests, and
 //! tests/examples/query_values.toml with the files next to it.
 //!
 //! ```text

@@ -14,7 +14,7 @@
 //! `diagnosis`, `likeness` (other formats), `hint`, `reports`. The contract of each step cites specs/Rest.antt, which says
 //! which texts complete the line after each state.
 //!
-//! Tests: tests/examples/program_line_*.toml, and `lines` of the crate program_tests.
+//! Tests: tests/examples/program_line_*.toml, and `program::lines` of spq_tests.
 //!
 //! Not guaranteed: that the reason is the mistake that the author made. It is about the first
 //! character that is not allowed at its place.

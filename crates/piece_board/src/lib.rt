@@ -25,7 +25,7 @@
 //! while let Some(i) = board.draw(&mut pass) { .. }         // in each thread
 //! let closed = board.close(passes);                        // drawn is 4
 //! ```
-//! The tests are `boards` of the crate loading_tests; `two_threads_draw_each_number_once` runs this
+//! The tests are `loading::boards` of spq_tests; `two_threads_draw_each_number_once` runs this
 //! example.
 //!
 //! Not guaranteed: which pass draws which number, that a look shows another pass's report at once,

@@ -12,8 +12,8 @@
 //! split. At which line feeds a document is split is a choice of this project (not fixed by the
 //! standard).
 //!
-//! Reading order: `places` (the search for a cut), `cuts`, `blocks`, `laws`. Tests: `cutting`
-//! and `readers` of the crate loading_tests.
+//! Reading order: `places` (the search for a cut), `cuts`, `blocks`, `laws`. Tests:
+//! `loading::cutting` and `loading::readers` of spq_tests.
 //!
 //! Not guaranteed: that a piece is small. A line longer than the size is one piece.
 #![tactic(auto)]

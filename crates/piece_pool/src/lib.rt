@@ -18,12 +18,12 @@
 //! Reading order: `job` (the work), `gate` (callbacks before and after each piece), `worker` (the
 //! loop of a worker), `collector` (outputs by number), `task` (a task for the caller's thread), `pool`
 //! (starting and joining the workers), `running` (in parallel, or on the caller's thread). Tests:
-//! `pools` of the crate loading_tests.
+//! `loading::pools` of spq_tests.
 //!
 //! ```text
 //! let outcome = run_all(&rt, alloc, 4, 1000, &job, &OpenGate)?;
 //! ```
-//! The test `an_offset_gate_numbers_the_pieces_of_a_document` of loading_tests makes a similar call.
+//! The test `an_offset_gate_numbers_the_pieces_of_a_document` there makes a similar call.
 //!
 //! Not guaranteed: that a second thread runs, that any piece is skipped, which worker runs which
 //! piece, and that `run_pieces` returns (it joins its workers).

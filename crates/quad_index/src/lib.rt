@@ -18,7 +18,7 @@
 //!
 //! Reading order: `sort_order`, `packed`, `quads`, `quad_list`, `prefix`, `range`, `index`, `counting`, `parts`,
 //! `laws`.
-//! Tests: `index` and `refusals` of the crate loading_tests.
+//! Tests: `loading::index` and `loading::refusals` of spq_tests.
 //!
 //! Not guaranteed: in which order a scan returns its quads.
 #![tactic(auto)]

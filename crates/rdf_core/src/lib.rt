@@ -15,7 +15,7 @@
 //! Reading order: `vocabulary` (IRIs of the standards), `text`, `term`, `quad`, `serialization` (the
 //! N-Quads form of a term), `laws`, `lexical` (the lexical forms that N-Quads and SPARQL share).
 //!
-//! Tests: `terms` of the crate loading_tests, and the files tests/examples/document_*.toml.
+//! Tests: `loading::terms` of spq_tests, and the files tests/examples/document_*.toml.
 //!
 //! Not guaranteed: that an IRI is well-formed beyond what a reader checks, or that a blank node
 //! label is valid in N-Quads. A term can be made of any texts.

@@ -28,7 +28,7 @@
 //! `packed_rows` (sorted rows in less memory), `values` (texts as JSON strings, and terms as
 //! objects), `term_texts`, `text_pieces` (terms printed in parallel), `columns`, `prefetch` (texts
 //! of several rows at once), `row_texts`, `row_blocks` (rows in parallel), `results`. Tests:
-//! `operators` of the crate query_tests, and tests/examples/query_json.toml.
+//! `query::operators` of spq_tests, and tests/examples/query_json.toml.
 //!
 //! Example: one variable `o` and the rows `"x"` and `<http://e/a>` give
 //! `{"head":{"vars":["o"]},"results":{"bindings":[{"o":{"type":"uri","value":"http://e/a"}},{"o":{"type":"literal","value":"x"}}]}}`

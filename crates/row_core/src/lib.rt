@@ -12,7 +12,7 @@
 //! Standard: SPARQL 1.1 Query Language, section 18.3 (compatible mappings, merge) and section 18.5
 //! (Project).
 //!
-//! Reading order: `rows` (over `cells`, their memory), `merging`. Tests: `operators` of the crate query_tests.
+//! Reading order: `rows` (over `cells`, their memory), `merging`. Tests: `query::operators` of spq_tests.
 //!
 //! Not guaranteed: how much memory a row takes.
 #![tactic(auto)]

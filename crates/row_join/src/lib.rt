@@ -29,7 +29,7 @@
 //! join((?s: 1), (?s: 2) ; (?s: 1, ?o: 7), (?o: 9))
 //!     = (?s: 1, ?o: 7), (?s: 1, ?o: 9), (?s: 2, ?o: 9)
 //! ```
-//! Tests: `operators` of the crate query_tests, and tests/examples/query_solutions.toml, which has similar joins.
+//! Tests: `query::operators` of spq_tests, and tests/examples/query_solutions.toml, which has similar joins.
 //!
 //! Not guaranteed: the order of the rows, which variables make the key, how much memory is taken.
 #![tactic(auto)]

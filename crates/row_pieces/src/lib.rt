@@ -7,7 +7,7 @@
 //!
 //! The split is a choice of this project (not fixed by the standard).
 //!
-//! Reading order: `how`, `context`, `pieces`. The tests `operators` of the crate query_tests run
+//! Reading order: `how`, `context`, `pieces`. The tests `query::operators` of spq_tests run
 //! [`over_pieces`].
 //!
 //! ```text

@@ -19,8 +19,8 @@
 //!
 //! Reading order: `operator`, `plan` (the tree); `names`, `naming` (the variables of a query and
 //! their numbers); `conversion`, `pattern`, `table`, `constructors`, `operation`, `part`, `addition`,
-//! `group`, `translation` (a query, element by element); `laws`. Tests: `plans` of the crate
-//! query_tests, and tests/examples/query_solutions.toml.
+//! `group`, `translation` (a query, element by element); `laws`. Tests: `query::plans` of
+//! spq_tests, and tests/examples/query_solutions.toml.
 //!
 //! ```text
 //! translate(alloc, &query)   // SELECT ?x { ?x ?p ?o FILTER (?o < 3) }:

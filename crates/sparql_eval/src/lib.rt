@@ -27,13 +27,13 @@
 //! `pair_counts`, `separated_pairs`, `separated_classes`, `separated`, `separated_rows` (pairs that a
 //! join by keys leaves out); `mentions`, `closed`, `possible_graphs`, `forms`, `evaluator`,
 //! `two_inputs`, `trees_to_join`, `tree_sizes`, `filtered_trees`, `named_graphs`, `across_graphs`,
-//! `evaluation` (a plan). Tests: `operators` and `plans` of the crate query_tests, and
+//! `evaluation` (a plan). Tests: `query::operators` and `query::plans` of spq_tests, and
 //! tests/examples/query_solutions.toml.
 //!
 //! ```text
 //! { ?s p ?o OPTIONAL { ?o p ?z } }  over  x p y, y p z  =  (?s: x, ?o: y, ?z: z), (?s: y, ?o: z)
 //! ```
-//! The test `a_query_has_its_plan_and_solutions` of query_tests runs a similar query.
+//! The test `query::plans::a_query_has_its_plan_and_solutions` of spq_tests runs a similar query.
 //!
 //! Not guaranteed: the order of the rows, and which numbers computed terms get.
 #![tactic(auto)]

@@ -13,7 +13,7 @@
 //! Standard: SPARQL 1.1 Query Language, section 19.8 (grammar).
 //!
 //! Reading order: `expression`, `group`, `query`. The crate has no tests of its own; those of
-//! query_tests use its trees.
+//! spq_tests use its trees.
 //!
 //! Not guaranteed: that a tree made by hand has a text. The trees of `sparql_read` have one.
 #![tactic(auto)]

@@ -8,7 +8,7 @@
 //! before the program waits for standard error.
 //!
 //! Tests: `tests/examples.py`, `tests/messages.py`, `tests/tour.py` and `tests/hostile.py` run the executable; the crate
-//! program_tests tests `run_words`.
+//! spq_tests tests `run_words`.
 #![tactic(auto)]
 
 ghost use Rattle.std.specs.Prelude.{◌≡◌};

@@ -17,8 +17,8 @@
 //! Standards: SPARQL 1.1 Query Language, sections 17.2 and 17.3; XML Schema 1.1 Part 2, sections
 //! 3.3 and 3.4 (lexical forms of numbers and booleans).
 //!
-//! Reading order: `digits`, `number`, `literal`, `valued`, `comparison`, `equality`. Tests: `values`
-//! of the crate query_tests, and tests/examples/query_values.toml with the files next to it.
+//! Reading order: `digits`, `number`, `literal`, `valued`, `comparison`, `equality`. Tests:
+//! `query::values` of spq_tests, and tests/examples/query_values.toml with the files next to it.
 //!
 //! ```text
 //! compare(Comparison::Equal, &one, &one_point_zero)   // "01"^^xsd:integer and 1.0: Some(true)

@@ -1,0 +1,37 @@
+//! The terms of a line: they are read, copied, compared and written. tests/examples has the examples of the N-Quads
+//! grammar.
+
+use crate::fixtures::text;
+use nquads_core::{read_line, read_term};
+use rdf_core::{Quad, write_term};
+use std::alloc::AllocGlobal;
+
+/// A line has a statement, which is equal to its copy and to the statement of the same terms.
+#[test]
+fn a_line_has_a_statement(rt: HostRuntime) {
+    let line = b"<a:s> <a:p> \"x\\u0079\"@EN _:g .";
+    let found = read_line(rt.alloc(), line).expect(&rt, "a line");
+    let quad = found.expect(&rt, "a statement");
+    let Quad { s, p, o, g } = quad.copy(rt.alloc()).expect(&rt, "a copy");
+    let again = Quad::of(s, p, o, g).expect(&rt, "terms in their places");
+    assert!(rt; again == quad, "the same statement");
+}
+
+/// A term is equal to its copy, and its N-Quads form denotes it.
+#[test]
+fn a_term_is_read_and_written(rt: HostRuntime) {
+    let found = read_term(rt.alloc(), "\"x\\u0079\"@EN").expect(&rt, "a term");
+    let term = found.expect(&rt, "a term");
+    let copy = term.copy(rt.alloc()).expect(&rt, "a copy");
+    assert!(rt; copy == term, "a copy");
+    let mut form = Vec::new(rt.alloc());
+    write_term(&term, &mut form).expect(&rt, "a form");
+    assert!(rt; form.as_slice() == b"\"xy\"@en".as_slice(), "a form");
+}
+
+/// A text is returned as it was made.
+#[test]
+fn a_text_is_given_back(rt: HostRuntime) {
+    let made = text(rt.alloc(), "b\u{e9}").into_string();
+    assert!(rt; made.as_str() == "b\u{e9}", "a text");
+}
