@@ -12,7 +12,7 @@ use std::alloc::{AllocError, AllocFailed};
 use text_dict::TextDict;
 
 /// Why a slice is not numbered.
-#[derive(Clone, Copy, Debug, PartialEq, Eq)]
+#[derive(Clone, Copy)]
 pub(crate) enum NamingFault {
     /// A slice denotes no term, or none that is allowed at its place. This decides nothing.
     NeedsFullReader,
