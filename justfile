@@ -66,9 +66,10 @@ extra:
     tests/hostile.py --size 5
     tests/parts.py
 
-# the tests of errors with each allocation and each thread start failing in turn, as the gate runs them
-refusals:
+# the tests of errors with each allocation and each thread start failing in turn, and the built program, as the gate runs them
+refusals program='crates/spq/out/spq':
     tests/refusals.sh
+    tests/failures.py {{program}}
 
 # compare loading with other programs
 bench quads='100000':

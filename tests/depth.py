@@ -6,11 +6,14 @@
 PROGRAM is the executable (default: crates/spq/out/spq). Each query makes one path of recursion as deep as brackets or the command
 line allow, over rows that are split into tasks of one row, so that the stack of each worker is used. A query fails if a signal ends the
 program, or if the result is another one than that of a short query with the same solutions.
+Long texts are also checked alone, with a document that is malformed, so that nothing is evaluated. The main thread checks them, here
+with 1 MiB of stack: a chain is read and dropped at constant depth, and in linear time, so a text takes milliseconds.
 Afterwards the nested conditions run once more with workers that have 64 KiB of stack (stack.c) in place of 64 MiB. This must end the
 program, or else the queries are not deep enough to show that the stack suffices. It needs a C compiler, and is left out without one.
 Python 3 standard library only.
 """
 import os
+import resource
 import shutil
 import subprocess
 import sys
@@ -23,6 +26,8 @@ DEPTH = 99
 # The longest text of a query, below the 128 KiB of one argument. hostile.py has chains of operators of this length.
 LONGEST, OPERATORS = 120_000, 20_000
 ROWS = 24
+# The bytes of stack of the main thread for a text that is only checked, of which the text itself takes some. The seconds for a text.
+CHECK_STACK, CHECK_SECONDS = 1 << 20, 10
 # With these words each row is a task.
 TASKS = ["--rows", "1", "--piece", "1"]
 ALL = "SELECT ?s ?o { ?s e:p ?o }"
@@ -95,6 +100,24 @@ def operators():
     yield "UNION", chain("SELECT DISTINCT ?s ?o { { ?s e:p ?o } ", "UNION { ?s e:p ?o }", " }", OPERATORS), ALL
 
 
+def texts():
+    """Yields long texts, with the rule that rejects each, or None. The rules apply to the first part of a chain and to the last."""
+    yield chain("SELECT * { { ?s ?p _:l }", " UNION { ?s ?p ?o }", " }"), None
+    yield chain("SELECT * { { ?s ?p _:l }", " UNION {}", " UNION { ?s ?p _:l } }"), "blank label"
+    yield chain("SELECT * { { ?s ?p ?o }", " UNION {}", " BIND(1 AS ?o) }"), "bind"
+    yield chain("SELECT * { { ?s ?p ?o BIND(1 AS ?o) }", " UNION {}", " }"), "bind"
+    for start, part, end in (("FILTER(?a", "||?a", ")"), ("FILTER(?a", "&&?a", ")"), ("FILTER(?a IN (1", ",1", "))"), ("VALUES ?a {", " 1", " }"),
+                             ("?s ?p ?o", ".?s ?p ?o", ""), ("?s ?p ?o", ";?p ?o", ""), ("?s ?p ?o", ",?o", ""), ("", "OPTIONAL{}", "")):
+        yield chain("SELECT * { " + start, part, end + " }"), None
+    # Characters of names and dots, in which a name ends only at the last colon.
+    yield chain("SELECT * { ?s ?p ", "a.", "a:b }"), "prefix"
+    yield chain("SELECT * { ?s ?p ", "a.", ":b }"), "syntax"
+    yield chain("SELECT * { ?s ?p 1e1", ".1e1", ":b }"), "syntax"
+    yield chain("SELECT * { ?s ?p ?o", ".", ":b }"), "syntax"
+    yield chain("", "PREFIX e: <a:> ", "SELECT * { e:a ?p ?o }"), None
+    yield chain("SELECT * { # ", "(", "\n}"), None
+
+
 def queries():
     """Yields the name of each query, its text, the words of the command with eight workers, and the short query."""
     for name, condition, value in bracketed(DEPTH - 1):
@@ -111,6 +134,13 @@ def result(program, query, words, preloaded=None):
     variables = {**os.environ, "LD_PRELOAD": preloaded} if preloaded else None
     run = subprocess.run([program, "select", "--query", PREFIX + query, *words], input=document(), capture_output=True, timeout=120, env=variables)
     return (run.returncode, run.stdout) if run.returncode >= 0 else (f"signal {-run.returncode}", b"")
+
+
+def checked(program, text):
+    """Returns the status and the output for a text over a malformed document, on a main thread with little stack."""
+    run = subprocess.run([program, "select", "--query", text], input=b"x\n", capture_output=True, timeout=CHECK_SECONDS,
+                         preexec_fn=lambda: resource.setrlimit(resource.RLIMIT_STACK, (CHECK_STACK, CHECK_STACK)))
+    return run.returncode, run.stdout
 
 
 def notices_a_small_stack(program):
@@ -134,6 +164,12 @@ def main():
             if found != expected[short]:
                 wrong += 1
                 print(f"{name}, {workers} workers: {found[0]} {found[1][:120]!r}, not {expected[short][0]} {expected[short][1][:120]!r}")
+    for text, rule in texts():
+        count += 1
+        found, wanted = checked(program, text), (2, b"error: query %s\n" % rule.encode()) if rule else (1, b"error: line 1\n")
+        if found != wanted:
+            wrong += 1
+            print(f"{text[:40]}..{text[-20:]}: {found[0]} {found[1][:120]!r}, not {wanted[0]} {wanted[1]!r}")
     print(f"{count - wrong} of {count} runs of deep queries have the right result")
     if shutil.which("cc") and not notices_a_small_stack(program):
         wrong += 1

@@ -9,7 +9,7 @@ runs for longer than two minutes. The documents of `growth` are read at a size a
 Time and memory may grow by twice that factor, but not by its square.
 `--size N` scales the large documents to N percent of their full size, so that a first run is quick. `--large` adds a document of more
 than 4 GiB, which needs 6 GB of memory.
-Needs the Python 3 standard library, and cc for two cases that replace calls of the C library.
+Needs the Python 3 standard library, and cc for a case that replaces calls of the C library.
 """
 import argparse
 import contextlib
@@ -501,35 +501,11 @@ def few_processes(program):
     expect(got == refused, f"select, on another thread: status {got[0]} and {got[1][:200]!r}")
 
 
-def refuse_in_turn(program, library, words, answered, kind, refused):
-    """Lets the first call of this kind fail, then the second, and so on. Expects the result or an error each time."""
-    for n in range(1, 2000):
-        refusal = {**os.environ, "LD_PRELOAD": library, f"REFUSE_{kind}": str(n)}
-        ran = subprocess.run([program.path, *words, *TWO_PIECES], input=STATEMENT * 2, capture_output=True, env=refusal, timeout=SECONDS)
-        got = (ran.returncode, ran.stdout)
-        expect(got in [answered, *refused], f"{words[0]}, {kind} {n}: status {got[0]} and {got[1][:200]!r}")
-        if b"refused" not in ran.stderr:
-            expect(got == answered, f"{words[0]}: status {got[0]} and {got[1][:200]!r}, and no call failed")
-            expect(n > 1, f"{words[0]}: no {kind} failed")
-            return
-    raise Failed(f"{words[0]}: more than 2000 failures of {kind}")
-
-
 def stand_in(program, name):
     """Compiles tests/NAME.c to a library that replaces calls of the C library."""
     library = os.path.join(program.folder, f"{name}.so")
     subprocess.run(["cc", "-O2", "-shared", "-fPIC", "-o", library, os.path.join(HERE, f"{name}.c")], check=True)
     return library
-
-
-def each_call_refused(program):
-    """Lets each allocation of a run fail in turn, from its command line on, and each start of a thread."""
-    library = stand_in(program, "refusals")
-    memory, worker = (4, b"error: memory\n"), (4, b"error: worker\n")
-    terms = b"<http://e/s>\n<http://e/p>\n<http://e/o>\n"
-    for words, line in ((["check"], counts(1, 3, 0)), (["terms"], terms), (["select", "--query", "SELECT * {}"], NO_NAMES)):
-        refuse_in_turn(program, library, words, (0, line), "GROWTH", [memory, worker])
-        refuse_in_turn(program, library, words, (0, line), "START", [worker])
 
 
 def blocks_left(program, library, words, document):
@@ -850,7 +826,6 @@ CASES = [
     many_workers_over_many_rows, the_least_of_many_bad_lines, a_full_output, a_reader_that_closes_early,
     a_closed_output, an_input_that_fails, an_input_that_fails_at_each_place, an_input_that_fails_after_a_malformed_line,
     a_connection_that_is_reset, a_file_that_is_truncated, little_memory_for_each_kind, little_memory, few_processes,
-    each_call_refused,
     nothing_left_behind, wrong_words, growth, terms_of_one_weak_hash, brackets, growing_answers, many_graphs_in_turn,
     a_graph_within_many_graphs, long_lists, a_query_before_a_bad_document, long_queries, long_queries_and_little_memory,
 ]

@@ -6,8 +6,9 @@
 //!
 //! `fixtures` has what the areas share. A function has a contract, so a test is for what no contract covers, and a short
 //! example of each call that no other test reaches. Each call of the main interface succeeds once, which no contract promises,
-//! since memory may run out. The examples of the standards, of the results and of the messages are in tests/examples and
-//! tests/messages.py, and run through the program.
+//! since memory may run out. The rest runs through the program: the examples of the standards and of the results are in
+//! tests/examples, messages in tests/messages.py, failing calls of the system in tests/failures.py, and long queries in
+//! tests/depth.py.
 //!
 //! The tests are in a crate of their own, so that a check of the tests proves no library a second time, and in one crate, since
 //! each crate of tests reads the libraries that it stands on. Each function costs the prover some seconds, so a test is one

@@ -3,17 +3,13 @@
 //! - `terms` of rdf_core and nquads_core, and `transfers` of nquads_core;
 //! - `slices` of nquads_scan: which lines are read the fast way;
 //! - `boards` of piece_board, and `pools` of piece_pool: what two threads do at the same time;
-//! - `cutting` of piece_cuts, and `index` of quad_index;
-//! - `readers` of dataset_load: the lines and the pieces of several rounds;
-//! - `refusals` of all these, dict_core, text_dict and text_pieces: what is left if an allocation fails or a worker thread
-//!   cannot be started. A test of them ends without an error if the failing allocation is one of its own.
-//!
-//! `cases` prints cases that are wrong.
+//! - `cutting` of piece_cuts;
+//! - `readers` of dataset_load: the pieces of several rounds, and the terms of a reader;
+//! - `refusals` of dict_core, quad_index and dataset_load: what is left if an allocation fails or a worker thread cannot be
+//!   started. A test of them ends without an error if the failing allocation is one of its own.
 
 mod boards;
-mod cases;
 mod cutting;
-mod index;
 mod pools;
 mod readers;
 mod refusals;

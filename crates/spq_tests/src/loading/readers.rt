@@ -1,13 +1,12 @@
-//! A document that is loaded from a reader, in three rounds.
+//! Documents that are loaded from a reader.
 
-use crate::fixtures::{Counter, SliceSource};
-use crate::loading::cases::equal;
+use crate::fixtures::Counter;
 use dataset_load::{LoadNotes, NoListener, ReaderFault, count_reader, load_terms};
 use nquads_core::Device;
 use piece_pool::OpenGate;
 
-/// A line is counted over the rounds, and a gate gets the number of a piece in the document: 145 pieces, whose numbers
-/// from 0 to 144 have the sum 10440. A reader that fails in the second round is reported in place of the malformed line.
+/// A line is counted over three rounds, and a gate gets the number of a piece in the document: 145 pieces, whose numbers
+/// from 0 to 144 have the sum 10440.
 #[test]
 fn rounds_count_lines_and_pieces_of_the_document(rt: HostRuntime) {
     let mut doc = Vec::new(rt.alloc());
@@ -28,25 +27,34 @@ fn rounds_count_lines_and_pieces_of_the_document(rt: HostRuntime) {
         &mut notes,
         &NoListener,
     );
-    let found = found.err();
+    let fault = found.err();
     assert!(rt;
-        found == Some(ReaderFault::BadLine((144 << 16) + 1)),
+        fault == Some(ReaderFault::BadLine((144 << 16) + 1)),
         "the last line"
     );
-    equal(&rt, "pieces", 145, gate.entered());
-    equal(&rt, "the sum of their numbers", 10440, gate.sum());
-    let mut reader = SliceSource::failing_after(doc.as_slice(), 8192, 5 << 20);
+    assert!(rt;
+        gate.counts() == (145, 145, 10440),
+        "the pieces and their numbers"
+    );
+}
+
+/// A repeated statement has no new terms.
+#[test]
+fn a_reader_has_terms(rt: HostRuntime) {
+    let mut reader = Device {
+        inner: b"<a:s> <a:p> \"x\" .\n<a:s> <a:p> \"x\" .\n".as_slice(),
+    };
+    let mut notes = LoadNotes::new();
     let found = load_terms(
         &rt,
         rt.alloc(),
-        65536,
+        1,
         &mut reader,
         2,
         &OpenGate,
         &mut notes,
         &NoListener,
     );
-    let found = found.err();
-    assert!(rt; found == Some(ReaderFault::Read), "a read that fails");
-    equal(&rt, "reads that failed", 1, reader.failed);
+    let terms = found.expect(&rt, "terms");
+    assert!(rt; terms.len() == 3, "three terms");
 }

@@ -6,5 +6,3 @@
 mod dictionary;
 mod documents;
 mod index;
-mod pools;
-mod texts;

@@ -1,5 +1,4 @@
-//! The terms of a line: they are read, copied, compared and written. tests/examples has the examples of the N-Quads
-//! grammar.
+//! The terms of a line: they are read, copied and written. tests/examples has the examples of the N-Quads grammar.
 
 use crate::fixtures::text;
 use nquads_core::{read_line, read_term};
@@ -17,15 +16,14 @@ fn a_line_has_a_statement(rt: HostRuntime) {
     assert!(rt; again == quad, "the same statement");
 }
 
-/// A term is equal to its copy, and its N-Quads form denotes it.
+/// The N-Quads form of a copy denotes the term.
 #[test]
 fn a_term_is_read_and_written(rt: HostRuntime) {
     let found = read_term(rt.alloc(), "\"x\\u0079\"@EN").expect(&rt, "a term");
     let term = found.expect(&rt, "a term");
     let copy = term.copy(rt.alloc()).expect(&rt, "a copy");
-    assert!(rt; copy == term, "a copy");
     let mut form = Vec::new(rt.alloc());
-    write_term(&term, &mut form).expect(&rt, "a form");
+    write_term(&copy, &mut form).expect(&rt, "a form");
     assert!(rt; form.as_slice() == b"\"xy\"@en".as_slice(), "a form");
 }
 

@@ -4,10 +4,10 @@ use crate::fixtures::{Meeting, text};
 use crate::query::rows::{HOW, hash_state, two_rows};
 use result_json::{Table, print_rows};
 use sparql_algebra::Expr;
-use sparql_eval::{Rows, distinct, extend, filter, join, left_join, minus, project, union};
+use sparql_eval::{distinct, extend, filter, join, left_join, minus, project, union};
 use std::alloc::AllocGlobal;
 
-/// The rows x and y become the rows xx and yy, which are then joined with themselves, filtered, and taken away.
+/// The rows x and y become the rows xx and yy, which are then joined with themselves.
 #[test]
 fn operators_go_over_rows(rt: HostRuntime) {
     let alloc = rt.alloc();
@@ -44,12 +44,21 @@ fn operators_go_over_rows(rt: HostRuntime) {
     )
     .expect(&rt, "left join");
     assert!(rt; gate.is_met(), "left join");
+    assert!(rt; (rows.len(), dict.len()) == (2, 2));
+}
+
+/// No row is left out, and then each is taken away.
+#[test]
+fn rows_are_filtered_and_taken_away(rt: HostRuntime) {
+    let alloc = rt.alloc();
+    let (rows, dict) = two_rows(&rt, alloc);
     let gate = Meeting::new();
-    let (rows, dict) = filter(&rt, alloc, dict, &rows, &Expr::Bound(1), &HOW, &gate).expect(
+    let (rows, dict) = filter(&rt, alloc, dict, &rows, &Expr::Bound(0), &HOW, &gate).expect(
         &rt, "filter",
     );
     assert!(rt; gate.is_met(), "filter");
     let gate = Meeting::new();
+    let state = hash_state(&rt);
     let (none, dict) = minus(&rt, alloc, state, dict, &rows, &rows, &HOW, &gate).expect(
         &rt, "minus",
     );
@@ -87,16 +96,4 @@ fn rows_are_printed(rt: HostRuntime) {
     let blocks = print_rows(&rt, alloc, &table, rows, &HOW, &gate).expect(&rt, "the blocks");
     assert!(rt; gate.is_met());
     assert!(rt; blocks.len() == 4);
-}
-
-/// The numbers are the largest one of a cell of 4 bytes, the next one, and the largest one.
-#[test]
-fn rows_are_as_they_were_pushed(rt: HostRuntime) {
-    let mut rows = Rows::new(rt.alloc(), 2);
-    rows.push(&[Some(4_294_967_294), None]).expect(&rt, "a row");
-    rows.push(&[Some(4_294_967_295), Some(u64::MAX)])
-        .expect(&rt, "a row");
-    assert!(rt; (rows.width(), rows.len()) == (2, 2));
-    assert!(rt; (rows.get(0, 0), rows.get(0, 1)) == (Some(4_294_967_294), None));
-    assert!(rt; (rows.get(1, 0), rows.get(1, 1)) == (Some(4_294_967_295), Some(u64::MAX)));
 }

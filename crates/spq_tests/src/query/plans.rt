@@ -9,8 +9,8 @@ use dict_core::Dict;
 use piece_cuts::Cuts;
 use piece_pool::OpenGate;
 use quad_index::Index;
-use sparql_algebra::{GraphName, Operator, PatternTerm, TriplePattern, translate};
-use sparql_eval::{evaluate, graph, pattern};
+use sparql_algebra::{GraphName, Operator, PatternTerm, Plan, TriplePattern, translate};
+use sparql_eval::{Rows, evaluate, graph, pattern};
 use sparql_read::read_query;
 use std::alloc::{AllocGlobal, Global};
 use std::process::Abort;
@@ -29,25 +29,31 @@ fn stored<R: RandomSource + Threads + Wait + Abort>(rt: &R, alloc: Global) -> (D
     store.into_parts()
 }
 
+/// Returns the plan of a query.
+fn plan_of<R: Abort>(rt: &R, alloc: Global, text: &str) -> Plan {
+    let query = read_query(alloc, text).expect(rt, "a query");
+    translate(alloc, &query).expect(rt, "a plan")
+}
+
 /// OPTIONAL keeps the solution that it cannot extend.
 #[test]
 fn a_query_has_its_plan_and_solutions(rt: HostRuntime) {
     let alloc = rt.alloc();
-    let (dict, index) = stored(&rt, alloc);
-    let text = "SELECT ?z ?s { ?s ?p ?o OPTIONAL { ?o ?q ?z } }";
-    let query = read_query(alloc, text).expect(&rt, "a query");
-    let plan = translate(alloc, &query).expect(&rt, "a plan");
-    assert!(rt; plan.projected() == [0, 1].as_slice());
-    let (rows, _dict) = evaluate(&rt, alloc, dict, &index, &plan, &HOW, &OpenGate).expect(
-        &rt, "rows",
+    let plan = plan_of(
+        &rt,
+        alloc,
+        "SELECT ?z ?s { ?s ?p ?o OPTIONAL { ?o ?q ?z } }",
     );
+    let (dict, index) = stored(&rt, alloc);
+    let found = evaluate(&rt, alloc, dict, &index, &plan, &HOW, &OpenGate);
+    let (rows, _dict): (Rows, Dict) = found.expect(&rt, "rows");
     assert!(rt; rows.width() == 5 && rows.len() == 2);
     assert!(rt; rows.get(0, 0).is_some() != rows.get(1, 0).is_some());
 }
 
-/// No query has a label as a predicate. GRAPH with a variable has a solution of the empty pattern for each name.
+/// No query has a label as a predicate.
 #[test]
-fn a_graph_is_matched(rt: HostRuntime) {
+fn a_pattern_is_matched(rt: HostRuntime) {
     let alloc = rt.alloc();
     let (dict, index) = stored(&rt, alloc);
     let triples = [TriplePattern {
@@ -59,7 +65,14 @@ fn a_graph_is_matched(rt: HostRuntime) {
     let (rows, dict) = pattern(&rt, alloc, dict, &index, None, 1, 2, &triples, &HOW, &gate).expect(
         &rt, "rows",
     );
-    assert!(rt; gate.is_met() && rows.len() == 2);
+    assert!(rt; gate.is_met() && (rows.len(), dict.len()) == (2, 6));
+}
+
+/// GRAPH with a variable has a solution of the empty pattern for each name.
+#[test]
+fn a_graph_is_matched(rt: HostRuntime) {
+    let alloc = rt.alloc();
+    let (dict, index) = stored(&rt, alloc);
     let state = hash_state(&rt);
     let inner = Operator::Pattern {
         labels: 0,

@@ -1,8 +1,7 @@
-//! Values of expressions over a row, comparisons and effective boolean values, by direct calls.
+//! The value of an expression over a row, a comparison and an effective boolean value, by direct calls.
 use crate::fixtures::text;
 use rdf_core::Term;
-use rdf_core::vocabulary::XSD_STRING;
-use sparql_algebra::{Comparison, Expr, ExprFault, Function, Lookup, compare, test, truth, value};
+use sparql_algebra::{Comparison, Expr, Lookup, compare, test, truth, value};
 use std::alloc::AllocGlobal;
 
 /// A row of one variable.
@@ -27,30 +26,17 @@ impl Lookup for Row {
     }
 }
 
-/// `STR(?x)` is the text of an IRI, whose effective boolean value is true, and an error if `?x` is unbound. `!?x` is an
-/// error, since an IRI has no such value.
+/// `BOUND(?x)` has a value, which is equal to itself and whose effective boolean value is true.
 #[test]
-fn an_error_is_no_value(rt: HostRuntime) {
+fn an_expression_has_a_value(rt: HostRuntime) {
     let alloc = rt.alloc();
     let row = Row {
-        term: Some(Term::Iri(text(alloc, "http://e/a"))),
+        term: Some(Term::Iri(text(alloc, "a:a"))),
     };
-    let empty = Row { term: None };
-    let argument = Box::new(alloc, Expr::Variable(0)).expect(&rt, "a box");
-    let str_of_x = Expr::Call {
-        function: Function::Str,
-        argument,
-    };
-    let not_x = Expr::Not(Box::new(alloc, Expr::Variable(0)).expect(&rt, "a box"));
-    let found = value(alloc, &str_of_x, &row).expect(&rt, "the value of STR(?x)");
-    assert!(rt; value(alloc, &str_of_x, &empty) == Err(ExprFault::Error));
-    let expected = Term::Literal {
-        lexical: text(alloc, "http://e/a"),
-        datatype: text(alloc, XSD_STRING),
-        tag: None,
-    };
-    assert!(rt; compare(Comparison::Equal, &found, &expected) == Some(true));
-    assert!(rt; truth(&found) == Some(true));
-    assert!(rt; test(alloc, &str_of_x, &row) == Ok(true));
-    assert!(rt; test(alloc, &not_x, &row) == Ok(false));
+    let expression = Expr::Bound(0);
+    assert!(rt; test(alloc, &expression, &row) == Ok(true));
+    let found = value(alloc, &expression, &row).expect(&rt, "the value of BOUND(?x)");
+    assert!(rt;
+        compare(Comparison::Equal, &found, &found) == Some(true) && truth(&found) == Some(true)
+    );
 }

@@ -2,7 +2,6 @@
 ghost use Rattle.std.specs.Prelude.{◌≤◌};
 
 use crate::fixtures::Counter;
-use crate::loading::cases::equal;
 use dataset_load::{
     LoadNotes, NoListener, ReaderFault, Store, count_reader, load, load_blocks, load_reader,
     read_blocks,
@@ -62,12 +61,19 @@ fn in_blocks<R: Threads + Wait + RandomSource>(
     }
 }
 
-/// Loads or counts the document from a reader. Prints whether a list of malformed lines is not complete, for the script
-/// to see.
+/// Prints whether a list of malformed lines is not complete, for the script to see.
+fn tell_of_list<R: Print>(rt: &R, notes: &LoadNotes) {
+    if let Some(listing) = &notes.malformed {
+        if !listing.is_complete {
+            let _ = println!(rt; "the list failed");
+        }
+    }
+}
+
+/// Loads the document from a reader.
 fn from_reader<R: Threads + Wait + RandomSource + Print>(
     rt: &R,
     alloc: Global,
-    is_counted: bool,
     doc: &[u8],
     workers: usize,
     gate: &Counter,
@@ -76,41 +82,52 @@ fn from_reader<R: Threads + Wait + RandomSource + Print>(
 {
     let mut reader = Device { inner: doc };
     let mut notes = LoadNotes::new();
-    let found = if is_counted {
-        match count_reader(
-            rt,
-            alloc,
-            1,
-            &mut reader,
-            workers,
-            gate,
-            &mut notes,
-            &NoListener,
-        ) {
-            Ok(counted) => Ok((counted.quads, counted.dict.len() as u64, counted.graphs)),
-            Err(fault) => Err(fault),
-        }
-    } else {
-        match load_reader(
-            rt,
-            alloc,
-            1,
-            &mut reader,
-            workers,
-            gate,
-            &mut notes,
-            &NoListener,
-        ) {
-            Ok(store) => Ok(counts(&store)),
-            Err(fault) => Err(fault),
-        }
-    };
-    if let Some(listing) = &notes.malformed {
-        if !listing.is_complete {
-            let _ = println!(rt; "the list failed");
+    match load_reader(
+        rt,
+        alloc,
+        1,
+        &mut reader,
+        workers,
+        gate,
+        &mut notes,
+        &NoListener,
+    ) {
+        Ok(store) => Ok(counts(&store)),
+        Err(fault) => {
+            tell_of_list(rt, &notes);
+            Err(fault)
         }
     }
-    found
+}
+
+/// Counts what is in the document, from a reader.
+fn counted<R: Threads + Wait + RandomSource + Print>(
+    rt: &R,
+    alloc: Global,
+    doc: &[u8],
+    workers: usize,
+    gate: &Counter,
+) -> Counts
+    requires workers { (1 ≤ workers) × (workers ≤ 64) }
+{
+    let mut reader = Device { inner: doc };
+    let mut notes = LoadNotes::new();
+    match count_reader(
+        rt,
+        alloc,
+        1,
+        &mut reader,
+        workers,
+        gate,
+        &mut notes,
+        &NoListener,
+    ) {
+        Ok(counted) => Ok((counted.quads, counted.dict.len() as u64, counted.graphs)),
+        Err(fault) => {
+            tell_of_list(rt, &notes);
+            Err(fault)
+        }
+    }
 }
 
 /// Reads the document in one of four manners, and returns its counts.
@@ -127,14 +144,24 @@ fn read<R: Threads + Wait + RandomSource + Print>(
     match manner {
         0 => in_pieces(rt, alloc, doc, workers, gate),
         1 => in_blocks(rt, alloc, doc, workers, gate),
-        2 => from_reader(rt, alloc, false, doc, workers, gate),
-        _ => from_reader(rt, alloc, true, doc, workers, gate),
+        2 => from_reader(rt, alloc, doc, workers, gate),
+        _ => counted(rt, alloc, doc, workers, gate),
     }
 }
 
+/// Returns whether an allocation or a start failed, and prints that for the script.
+fn has_failed<R: Print>(rt: &R, found: &Counts) -> bool {
+    let what = match found {
+        Err(ReaderFault::Memory) => "memory failed",
+        Err(ReaderFault::WorkerRefused) => "a worker failed",
+        _ => return false,
+    };
+    let _ = println!(rt; "{what}");
+    true
+}
+
 /// Checks that the document has these counts in every manner, with one worker and with two. If an allocation or a start
-/// fails, this is printed for the script, and the second try must succeed. After each try, each piece that entered the
-/// gate must have left it.
+/// fails, the second try must succeed. Each piece that entered the gate in a try must have left it.
 fn check<R: Threads + Wait + RandomSource + Print + Abort>(
     rt: &R,
     alloc: Global,
@@ -145,18 +172,14 @@ fn check<R: Threads + Wait + RandomSource + Print + Abort>(
         for manner in 0..4 {
             let gate = Counter::new();
             let mut found = read(rt, alloc, manner, doc, workers, &gate);
-            let failed = match found {
-                Err(ReaderFault::Memory) => "memory failed\n",
-                Err(ReaderFault::WorkerRefused) => "a worker failed\n",
-                _ => "",
-            };
-            if failed != "" {
-                let _ = print!(rt; "{failed}");
-                equal(rt, "left after a fault", gate.entered(), gate.left());
+            if has_failed(rt, &found) {
                 found = read(rt, alloc, manner, doc, workers, &gate);
             }
-            assert!(rt; found == expected, "manner {manner} with {workers} workers");
-            equal(rt, "left", gate.entered(), gate.left());
+            let (entered, left, _) = gate.counts();
+            assert!(rt;
+                found == expected && entered == left,
+                "the counts of the document"
+            );
         }
     }
 }
