@@ -203,12 +203,16 @@ GATE_MUTANTS, OTHER_MUTANTS = "wrong-bodies/gate", "wrong-bodies"
 
 
 class Mutant:
-    """An edit of a crate: its name, folder, the names of what it changes, the edited texts, and why it cannot be applied."""
+    """An edit of a crate: its name, folder, the names of what it changes, the edited texts, and why it cannot be applied.
+
+    If it changes something other than functions too, it may name the function with the fault, by a line `in: PATH`.
+    """
 
     def __init__(self, crate, folder, name):
         self.crate, self.folder, self.name = crate, folder, name
         self.in_gate = folder == GATE_MUTANTS
         self.changed, self.prover_paths, self.places, self.edits, self.fault = [], [], [], [], ""
+        self.faulty = ""
         self.path = f"crates/{crate}/{folder}/{name}.edit"
         with open(f"{ROOT}/{self.path}", encoding="utf-8") as file:
             self.apply(file.read())
@@ -217,7 +221,9 @@ class Mutant:
         """Applies the edit as the gate does: each `old:` text is in its file once, and `new:` takes its place."""
         path, old, texts, pairs = "", "", {}, 0
         for line in edit.split("\n"):
-            if line.startswith("file: "):
+            if line.startswith("in: "):
+                self.faulty = line.removeprefix("in: ").strip()
+            elif line.startswith("file: "):
                 path = line.removeprefix("file: ").strip()
             elif line.startswith("old: "):
                 old = line.removeprefix("old: ")

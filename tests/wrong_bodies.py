@@ -11,7 +11,8 @@ the functions that it changes. They must be proved without the edit, and must no
 A function is proved from the contracts of those that it calls, not from their bodies. So mutants of different functions
 are checked in one run, and each needs an error of its own: one in a function that it changes, or in the proof of
 one. A mutant with no such error is checked alone, and then over the whole crate. So is a mutant that changes something other
-than functions. An error that only says that a proof file names what the edit took away does not count.
+than functions; if it names the function with the fault, by a line `in: PATH`, that function is checked first. An error that only
+says that a proof file names what the edit took away does not count.
 
 The libraries below a crate are those that `rt ci` left in crates/*/out, if they are newer than their sources.
 Otherwise the script builds them in a temporary folder, which takes as long as a proof of these crates.
@@ -127,9 +128,16 @@ class Prover:
         return ran.returncode, ran.stdout
 
 
+def is_of_functions(mutant):
+    """Returns whether a mutant changes functions alone."""
+    return bool(mutant.prover_paths) and None not in mutant.prover_paths
+
+
 def paths_of(mutant):
-    """Returns the paths of the functions that a mutant changes, or none if it changes something else too."""
-    return [] if None in mutant.prover_paths else sorted(set(mutant.prover_paths))
+    """Returns the paths of the functions that a mutant changes. If it changes something else too: of the one that it names, or none."""
+    if is_of_functions(mutant):
+        return sorted(set(mutant.prover_paths))
+    return [mutant.faulty] if mutant.faulty else []
 
 
 def modules_of(paths):
@@ -195,12 +203,12 @@ def batches(named):
     """Groups mutants such that those of a group change different functions, and their edits do not overlap."""
     groups = []
     for mutant in named:
-        if mutant.fault or not paths_of(mutant):
+        if mutant.fault or not is_of_functions(mutant):
             groups.append([mutant])
             continue
         for group in groups:
             taken = {place for other in group for place in other.places}
-            if paths_of(group[0]) and not group[0].fault and not taken & set(mutant.places) and texts_of([*group, mutant]):
+            if is_of_functions(group[0]) and not group[0].fault and not taken & set(mutant.places) and texts_of([*group, mutant]):
                 group.append(mutant)
                 break
         else:
