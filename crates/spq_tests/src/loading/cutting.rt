@@ -1,18 +1,21 @@
 //! Cuts and blocks of the document `a`, LF, `b`, LF, LF, `c`.
 
-use nquads_core::Device;
+use nquads_core::{Device, read_to_end};
 use piece_pool::{Blocks, Cuts};
 
 const DOCUMENT: &[u8] = b"a\nb\n\nc";
 
-/// A piece ends after a line feed.
+/// A reader is read to its end, and a piece ends after a line feed.
 #[test]
 fn a_document_is_cut_after_a_line_feed(rt: HostRuntime) {
+    let mut reader = Device { inner: DOCUMENT };
+    let bytes = read_to_end(rt.alloc(), &mut reader).expect(&rt, "all bytes");
+    let document = bytes.as_slice();
     let places = Vec::from_slice(rt.alloc(), &[4]).expect(&rt, "places");
-    let cuts = Cuts::of(DOCUMENT, places).expect(&rt, "cuts");
-    assert!(rt; cuts.fits(DOCUMENT) && cuts.pieces() == 2, "two pieces");
+    let cuts = Cuts::of(document, places).expect(&rt, "cuts");
+    assert!(rt; cuts.fits(document) && cuts.pieces() == 2, "two pieces");
     assert!(rt;
-        cuts.piece(DOCUMENT, 1) == b"\nc".as_slice(),
+        cuts.piece(document, 1) == b"\nc".as_slice(),
         "the last piece"
     );
 }
