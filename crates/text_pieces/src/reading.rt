@@ -2,13 +2,14 @@
 ghost use Rattle.std.specs.Prelude.{◌≡◌, ◌≤◌, ℕ, [], length, map, IfOk, IfErr, OnOk};
 ghost use Rattle.std.specs.List.{All};
 ghost use Rattle.rdf_core.specs.QuadParts.{parts_of};
+ghost use Rattle.rdf_core.specs.Serialization.{serialization};
 ghost use Rattle.nquads_core.specs.Laws.{IsNQuadsTerm};
 ghost use Rattle.nquads_core.specs.Lines.{lines};
 ghost use Rattle.nquads_core.specs.Pieces.{IsFirstMalformed};
 ghost use Rattle.nquads_core.specs.declared.fault.PieceFault.TheVariants.{BadLine};
 ghost use Rattle.dict_core.specs.Appearances.{terms_of};
 ghost use Rattle.text_pieces.specs.Pieces.{IsRead};
-ghost use Rattle.text_pieces.specs.Slices.{AreQuadsOf, AreTermNumbers};
+ghost use Rattle.text_pieces.specs.Slices.{AreQuadsOf, AreTermNumbers, IsPlaced};
 
 use crate::hashes::{count_lacking_slices, slice_hashes};
 use crate::naming::{NamingFault, number_text};
@@ -19,7 +20,7 @@ use crate::text_piece::TextPiece;
 use dict_core::{Dict, NumQuad, number_piece};
 use nquads_core::{Piece, PieceFault, read_piece};
 use nquads_scan::split_piece;
-use rdf_core::write_term;
+use rdf_core::{Term, write_term};
 use std::alloc::{AllocError, Global};
 use std::hash::RandomState;
 use text_dict::TextDict;
@@ -133,9 +134,26 @@ fn number_terms(
     let mut numbers = Vec::with_capacity(alloc, terms.len())?;
     let mut form = Vec::new(alloc);
     for n in 0..terms.len() as u64 {
-        form.clear();
-        write_term(terms.term(n), &mut form)?;
-        numbers.push_reserved(number_text(dict, new, form.as_slice())?);
+        numbers.push_reserved(number_term(dict, new, &mut form, terms.term(n))?);
     }
     Ok(numbers)
+}
+
+/// Returns the number of a term. If the dictionary lacks its text and it is new in the piece, the text is appended. `form` is a
+/// buffer for the text.
+fn number_term(
+    dict: &TextDict,
+    new: &mut TextDict,
+    form: &mut Vec<u8>,
+    term: &Term,
+) -> Result<u64, AllocError>
+    requires state { new.old.state ≡ dict.now.state }
+    requires occurs { IsNQuadsTerm term.now }
+    ensures state { new.new.state ≡ dict.now.state }
+    ensures number { IfOk result
+        (IsPlaced dict.now.texts new.old.texts new.new.texts (serialization term.now)) }
+{
+    form.clear();
+    write_term(term, form)?;
+    number_text(dict, new, form.as_slice())
 }

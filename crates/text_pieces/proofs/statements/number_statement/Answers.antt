@@ -1,8 +1,40 @@
-use Rattle.std.proofs.Common.{◌≡◌, true}
+use Rattle.std.proofs.Common.{◌≡◌, ◌∙◌, true, ap}
 use Rattle.rdf_core.specs.QuadFacts.{is_node}
+use Rattle.text_pieces.specs.Hashes.{hash_of_name}
+use Rattle.text_pieces.specs.declared.hashes.SliceHashes.{SliceHashes}
 use Rattle.text_pieces.proofs.KnownLaws.{grown_by_three, grown_then, known_kept, known_name, known_number, name_kept}
 use Rattle.text_pieces.proofs.StatementSteps.{numbers_named, numbers_unnamed}
 use Rattle.text_pieces.proofs.statements.number_statement.Goals as goal
+
+pub number_again-requires-clause-hashed : goal.number_again-requires-clause-hashed
+number_again-requires-clause-hashed c = ap (λ (h : SliceHashes). h.subject) c.requires.hashed
+
+pub number_again-requires-clause-known : goal.number_again-requires-clause-known
+number_again-requires-clause-known c = c.requires.subject
+
+pub number_iri-requires-clause-hashed : goal.number_iri-requires-clause-hashed
+number_iri-requires-clause-hashed c = ap (λ (h : SliceHashes). h.predicate) c.requires.hashed
+
+pub number_iri-requires-clause-state : goal.number_iri-requires-clause-state
+number_iri-requires-clause-state c = c.number_again.ensures.state
+
+pub number_slice-requires-clause-hashed : goal.number_slice-requires-clause-hashed
+number_slice-requires-clause-hashed c = ap (λ (h : SliceHashes). h.object) c.requires.hashed
+
+pub number_slice-requires-clause-state : goal.number_slice-requires-clause-state
+number_slice-requires-clause-state c = c.number_iri.ensures.state
+
+pub number_name-requires-clause-hashed : goal.number_name-requires-clause-hashed
+number_name-requires-clause-hashed c = ap (λ (h : SliceHashes). h.graph) c.requires.hashed ∙ ap (hash_of_name c.args.dict.now.state) c.in-Some.is
+
+pub number_name-requires-clause-state : goal.number_name-requires-clause-state
+number_name-requires-clause-state c = c.number_slice.ensures.state
+
+pub returns-in_err-p-clause-state : goal.returns-in_err-p-clause-state
+returns-in_err-p-clause-state c = c.number_iri.ensures.state
+
+pub returns-in_err-o-clause-state : goal.returns-in_err-o-clause-state
+returns-in_err-o-clause-state c = c.number_slice.ensures.state
 
 pub number_name-requires-clause-known : goal.number_name-requires-clause-known
 number_name-requires-clause-known c =
