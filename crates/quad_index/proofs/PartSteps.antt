@@ -44,6 +44,9 @@ module _ (part : ℕ) (qs : List NumQuad) (i : ℕ) (d : NumQuad) (n : ℕ) (low
       ∙ ap (λ b. filter (is_in part) (take i qs) ++ cond b (q ∷ []) []) (eqb_no (part_of q) part (λ e. other (made ∙ e)))
       ∙ append-nil (filter (is_in part) (take i qs))
 
+pub list_added : (done more list longer : List NumQuad) (q : NumQuad) → more ≡ done ++ q ∷ [] → list ≡ done → longer ≡ list ++ q ∷ [] → longer ≡ more
+list_added done more list longer q more_is was pushed = pushed ∙ ap (λ l. l ++ q ∷ []) was ∙ sym more_is
+
 pub key_added : (done more : List NumQuad) (q : NumQuad) (keys longer : List ℕ) (key : ℕ) → more ≡ done ++ q ∷ [] → keys ≡ map (key_of Gspo) done → key ≡ key_of Gspo q
     → longer ≡ keys ++ key ∷ [] → longer ≡ map (key_of Gspo) more
 key_added done more q keys longer key more_is was is pushed =
