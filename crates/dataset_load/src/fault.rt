@@ -3,7 +3,7 @@ use piece_pool::PoolFault;
 use std::alloc::{AllocError, AllocFailed};
 
 /// Why a document is not loaded.
-#[derive(Clone, Copy, Debug, PartialEq, Eq)]
+#[derive(Clone, Copy, Debug)]
 pub enum LoadFault {
     /// The line, counted from 1, is the first that is malformed.
     BadLine(u128),

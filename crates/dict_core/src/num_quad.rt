@@ -2,9 +2,7 @@
 
 /// A quad as numbers of a dictionary: its graph name, None for the default graph, and its subject,
 /// predicate and object.
-///
-/// The order is by graph, subject, predicate, object. The default graph comes first.
-#[derive(Debug, Clone, Copy, PartialEq, Eq, PartialOrd, Ord)]
+#[derive(Clone, Copy, PartialEq, Eq)]
 pub struct NumQuad {
     /// The number of the graph name.
     pub g: Option<u64>,

@@ -7,7 +7,7 @@ ghost use Rattle.nquads_core.specs.Device.{Counts};
 use std::io::{Read, Write};
 
 /// A call of a device failed.
-#[derive(Clone, Copy, Debug, PartialEq, Eq)]
+#[derive(Clone, Copy, Debug)]
 pub struct DeviceFailed;
 
 /// A source of bytes.

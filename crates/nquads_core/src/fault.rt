@@ -7,7 +7,7 @@ ghost use Rattle.nquads_core.specs.declared.fault.PieceFault.TheVariants as piec
 use std::alloc::{AllocError, AllocFailed};
 
 /// Why [`read_line`](crate::read_line) returns nothing.
-#[derive(Clone, Copy, Debug, PartialEq, Eq)]
+#[derive(Clone, Copy, Debug)]
 pub enum LineFault {
     /// The line is malformed.
     Bad,
@@ -16,7 +16,7 @@ pub enum LineFault {
 }
 
 /// Why [`read_piece`](crate::read_piece) returns nothing.
-#[derive(Clone, Copy, Debug, PartialEq, Eq)]
+#[derive(Clone, Copy, Debug)]
 pub enum PieceFault {
     /// The first malformed line, counted from 0 in the piece.
     BadLine(u64),

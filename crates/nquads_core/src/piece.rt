@@ -14,7 +14,7 @@ use rdf_core::Quad;
 use std::alloc::{AllocFailed, Global};
 
 /// What a piece of a document holds.
-#[derive(Debug, Drop)]
+#[derive(Drop)]
 pub struct Piece {
     /// The quads of its lines, in order, with repeats.
     pub quads: Vec<Quad>,

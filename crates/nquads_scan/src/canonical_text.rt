@@ -13,7 +13,7 @@ use rdf_core::write_term;
 use std::alloc::{AllocError, Global};
 
 /// How a slice relates to the canonical text of the term that it denotes.
-#[derive(Clone, Copy, Debug, PartialEq, Eq)]
+#[derive(Clone, Copy)]
 pub enum Form {
     /// The slice is this text.
     Same,

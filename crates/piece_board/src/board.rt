@@ -45,7 +45,7 @@ impl Model for Board {
 }
 
 /// Why a board was not opened.
-#[derive(Clone, Copy, Debug, PartialEq, Eq)]
+#[derive(Clone, Copy, Debug)]
 pub enum BoardFault {
     /// Out of memory.
     Memory,
@@ -63,7 +63,7 @@ impl From<AllocError> for BoardFault {
 }
 
 /// The totals of a closed board.
-#[derive(Clone, Copy, Debug, PartialEq, Eq)]
+#[derive(Clone, Copy)]
 pub struct Closed {
     /// How many numbers were drawn: they are the numbers from 0 up to this one, each drawn once.
     pub drawn: u64,

@@ -25,7 +25,7 @@ use std::thread::{Promise, PromisedHandle, Scope, Threads};
 const WORKER_STACK: usize = 64 * 1024 * 1024;
 
 /// Why a pool has no result.
-#[derive(Clone, Copy, Debug, PartialEq, Eq)]
+#[derive(Clone, Copy, Debug)]
 pub enum PoolFault {
     /// A worker thread could not be started. All started threads have been joined.
     WorkerRefused,

@@ -10,7 +10,7 @@ use dict_core::NumQuad;
 use std::alloc::{AllocError, Global};
 
 /// The numbers of quads and graph names of an index.
-#[derive(Debug, Clone, Copy, PartialEq, Eq)]
+#[derive(Clone, Copy)]
 pub struct IndexCounts {
     /// The number of distinct quads.
     pub quads: u64,

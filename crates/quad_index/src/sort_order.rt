@@ -9,7 +9,7 @@ use std::alloc::{AllocError, Global};
 
 /// An order of quads: by the graph, with the default graph first, and then by the places that the
 /// name lists.
-#[derive(Debug, Clone, Copy, PartialEq, Eq)]
+#[derive(Clone, Copy)]
 pub enum SortOrder {
     /// Graph, subject, predicate, object.
     Gspo,

@@ -10,7 +10,7 @@ use std::alloc::{AllocError, Global};
 ///
 /// Every value of the type satisfies an invariant: the subject and the graph name are not literals,
 /// and the predicate is an IRI (RDF 1.1 Concepts, sections 3.1 and 4).
-#[derive(Debug, Drop, PartialEq, Eq, PartialOrd, Ord, Hash)]
+#[derive(Drop, PartialEq, Eq)]
 pub struct Quad {
     /// The subject.
     pub s: Term,

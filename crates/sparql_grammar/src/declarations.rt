@@ -9,7 +9,7 @@ use std::collections::BTreeMap;
 use std::marker::Model;
 
 /// A prefix declaration, `PREFIX prefix: <iri>` ([6] PrefixDecl).
-#[derive(Debug, Drop)]
+#[derive(Drop)]
 pub struct Declaration {
     /// The prefix, without its colon.
     pub prefix: Text,

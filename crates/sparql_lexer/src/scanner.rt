@@ -13,7 +13,7 @@ use crate::token::Token;
 use std::alloc::{AllocError, Global};
 
 /// The terminals of a text up to its end, or up to the first place where there is no terminal.
-#[derive(Debug, Drop)]
+#[derive(Drop)]
 pub struct Scan<'a> {
     /// The terminals, in the order of the text.
     pub tokens: Vec<Token<'a>>,

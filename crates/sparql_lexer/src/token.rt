@@ -1,7 +1,7 @@
 //! The terminals of a query (SPARQL 1.1 Query Language, section 19.8).
 
 /// A sign of one or two characters.
-#[derive(Clone, Copy, Debug, PartialEq, Eq)]
+#[derive(Clone, Copy, PartialEq, Eq)]
 pub enum Sign {
     OpenBrace,
     CloseBrace,
@@ -24,7 +24,7 @@ pub enum Sign {
 }
 
 /// A keyword. Its case does not matter, except that `A` is the lower case `a`.
-#[derive(Clone, Copy, Debug, PartialEq, Eq)]
+#[derive(Clone, Copy, PartialEq, Eq)]
 pub enum Keyword {
     A,
     As,
@@ -57,7 +57,7 @@ pub enum Keyword {
 }
 
 /// The kind of a terminal.
-#[derive(Clone, Copy, Debug, PartialEq, Eq)]
+#[derive(Clone, Copy, PartialEq, Eq)]
 pub enum Kind {
     /// [139] IRIREF, as `<http://example.org/>`.
     IriRef,
@@ -98,7 +98,7 @@ pub enum Kind {
 }
 
 /// A terminal: its kind, and its characters as in the text.
-#[derive(Clone, Copy, Debug)]
+#[derive(Clone, Copy)]
 pub struct Token<'a> {
     /// The kind of the terminal.
     pub kind: Kind,

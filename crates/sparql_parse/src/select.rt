@@ -3,7 +3,7 @@
 use sparql_tree::{Element, Selection};
 
 /// A query as in its text, without the list of all its variables.
-#[derive(Debug, Drop)]
+#[derive(Drop)]
 pub struct Select {
     /// Whether the query has DISTINCT.
     pub distinct: bool,

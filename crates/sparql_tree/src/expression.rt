@@ -3,7 +3,7 @@
 use rdf_core::{Term, Text};
 
 /// The operators that compare two values ([114] `RelationalExpression`).
-#[derive(Clone, Copy, Debug)]
+#[derive(Clone, Copy)]
 pub enum Comparison {
     Equal,
     NotEqual,
@@ -14,7 +14,7 @@ pub enum Comparison {
 }
 
 /// The functions of one argument ([121] `BuiltInCall`).
-#[derive(Clone, Copy, Debug)]
+#[derive(Clone, Copy)]
 pub enum Function {
     Str,
     Lang,
@@ -26,7 +26,6 @@ pub enum Function {
 
 /// An expression ([110] `Expression`). `x NOT IN (..)` is represented as `Not` of `In`, which has
 /// the same meaning.
-#[derive(Debug)]
 pub enum Expression {
     /// `left || right` ([111] `ConditionalOrExpression`)
     Or(Box<Expression>, Box<Expression>),

@@ -5,7 +5,6 @@ use crate::expression::Expression;
 use rdf_core::{Term, Text};
 
 /// One position of a triple pattern ([106] `VarOrTerm`).
-#[derive(Debug)]
 pub enum VarOrTerm {
     /// `?name` or `$name`, by the name without its first character
     Variable(Text),
@@ -25,7 +24,7 @@ impl Drop for VarOrTerm {
 }
 
 /// A triple pattern. In the trees that `sparql_read` makes, its predicate is a variable or an IRI.
-#[derive(Debug, Drop)]
+#[derive(Drop)]
 pub struct Triple {
     /// The subject.
     pub subject: VarOrTerm,
@@ -36,7 +35,6 @@ pub struct Triple {
 }
 
 /// The name after GRAPH ([107] `VarOrIri`).
-#[derive(Debug)]
 pub enum VarOrIri {
     /// By the name without `?` or `$`
     Variable(Text),
@@ -54,7 +52,6 @@ impl Drop for VarOrIri {
 }
 
 /// An element of a group. A group is the list of its elements, in the order of the text.
-#[derive(Debug)]
 pub enum Element {
     /// A sequence of triple patterns without another element between them ([55] `TriplesBlock`),
     /// with `;` and `,` expanded

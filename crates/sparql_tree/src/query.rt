@@ -4,7 +4,6 @@ use crate::group::Element;
 use rdf_core::Text;
 
 /// The projection of a query ([9] `SelectClause`).
-#[derive(Debug)]
 pub enum Selection {
     /// `*`: the variables that are in scope
     All,
@@ -22,7 +21,7 @@ impl Drop for Selection {
 }
 
 /// A SELECT query as its text has it ([7] `SelectQuery`).
-#[derive(Debug, Drop)]
+#[derive(Drop)]
 pub struct Query {
     /// Whether the query has DISTINCT.
     pub distinct: bool,
