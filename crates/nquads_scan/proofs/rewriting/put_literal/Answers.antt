@@ -1,10 +1,33 @@
-use Rattle.std.proofs.Common.{◌≡◌, List, ℕ, ◌∷◌, ◌++◌, get_or, sym, ap, ◌∙◌, arith}
+use Rattle.std.proofs.Common.{◌≡◌, List, ℕ, [], ◌∷◌, ◌++◌, append_assoc, get_or, sym, ap, ◌∙◌, arith}
 use Rattle.std.specs.List.{flat_map}
 use Rattle.rdf_core.specs.Serialization.{escaped}
 use Rattle.nquads_core.proofs.CutLaws.{after_byte}
+use Rattle.nquads_scan.specs.Rewriting.{IsLonger}
 use Rattle.nquads_scan.proofs.PlainLaws.{first_then}
 use Rattle.nquads_scan.proofs.RewritingSteps.{literal_rewritten, quoted_text}
 use Rattle.nquads_scan.proofs.rewriting.put_literal.Goals as goal
+
+-- a list with one more part is longer
+longer_more : (old new last more : List ℕ) → IsLonger old new → last ≡ new ++ more → IsLonger old last
+longer_more old new last more h e = (h.0 ++ more, e ∙ ap (λ (l : List ℕ). l ++ more) h.1 ∙ append_assoc old h.0 more)
+
+longer_then : (old new last more : List ℕ) → new ≡ old ++ more → IsLonger new last → IsLonger old last
+longer_then old new last more e h = longer_more old new last h.0 (more, e) h.1
+
+pub returns-in_err-suffix-clause-longer : goal.returns-in_err-suffix-clause-longer
+returns-in_err-suffix-clause-longer c = longer_then c.args.out.now.items c.push.new.self.items c.put_string.new.out.items (34 ∷ []) c.in_ok-push.ensures.items c.put_string.ensures.longer
+
+pub returns-in_default-clause-longer : goal.returns-in_default-clause-longer
+returns-in_default-clause-longer c = longer_then c.args.out.now.items c.push.new.self.items c.put_string.new.out.items (34 ∷ []) c.in_ok-push.ensures.items c.put_string.ensures.longer
+
+pub returns-then-not-is_plain_suffix-clause-longer : goal.returns-then-not-is_plain_suffix-clause-longer
+returns-then-not-is_plain_suffix-clause-longer c = longer_then c.args.out.now.items c.push.new.self.items c.put_string.new.out.items (34 ∷ []) c.in_ok-push.ensures.items c.put_string.ensures.longer
+
+pub returns-clause-longer : goal.returns-clause-longer
+returns-clause-longer c =
+    longer_more c.args.out.now.items c.push-2.new.self.items c.extend_from_slice.new.self.items _
+    (longer_more c.args.out.now.items c.put_string.new.out.items c.push-2.new.self.items (34 ∷ []) (longer_then c.args.out.now.items c.push.new.self.items c.put_string.new.out.items (34 ∷ []) c.in_ok-push.ensures.items c.put_string.ensures.longer) c.in_ok-push-2.ensures.items)
+    c.in_ok-extend_from_slice.ensures.items
 
 pub range_from-requires : goal.range_from-requires
 range_from-requires c =

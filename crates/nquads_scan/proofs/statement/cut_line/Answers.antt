@@ -7,3 +7,7 @@ returns-then-begins_term-clause-shorter c =
     line_less c.args.text.now (Some c.in_ok-statement.statement) c.in_ok-after_line.field-0.now
     (record { start = c.after_blanks-start.result.now; tail = c.in_ok-statement.tail.now; lead = c.after_blanks-start.ensures; layout = c.in_ok-statement.ensures; end = c.in_ok-after_line.ensures })
     c.requires
+
+pub returns-then-begins_term-clause-line : goal.returns-then-begins_term-clause-line
+returns-then-begins_term-clause-line c =
+    record { start = c.after_blanks-start.result.now; tail = c.in_ok-statement.tail.now; lead = c.after_blanks-start.ensures; layout = c.in_ok-statement.ensures; end = c.in_ok-after_line.ensures }
