@@ -1,5 +1,6 @@
 -- A split has at most one key that can fit an expression: if it does not fit, no key does.
 use Rattle.std.proofs.Common.{◌≡◌, ℕ, Bool, true, false, ◌&&◌, ◌||◌, List, [], ◌∷◌, Option, None, Some, refl, sym, ap, ◌∙◌, ⊎_elim}
+use Rattle.std.specs.Option.{option_or}
 use Rattle.std.proofs.lemmas.Bool.{and_parts, eqb-true, false_from_ne_true, false≢true, or_cases}
 use Rattle.rdf_core.specs.declared.term.Term.{Term}
 use Rattle.rdf_core.proofs.TermLaws.{term_decides}
@@ -12,7 +13,7 @@ use Rattle.query_split.specs.declared.split.Split.TheVariants as by
 use Rattle.sparql_algebra.specs.AlgebraOf.{graph_name_of}
 use Rattle.sparql_algebra.specs.declared.operator.GraphName.{GraphName}
 use Rattle.sparql_algebra.specs.declared.operator.GraphName.TheVariants as name
-use Rattle.query_plan.specs.Keys.{first_graph, first_of, first_subject, first_variable, has_names, key_of, variable_at}
+use Rattle.query_plan.specs.Keys.{first_graph, first_subject, first_variable, has_names, key_of, variable_at}
 
 some_is : {X : Type 0} (x y : X) → Some x ≡ Some y → x ≡ y
 some_is {X} x y e = ap get e
@@ -24,8 +25,8 @@ some_is {X} x y e = ap get e
 some_not_none : {X : Type 0} (x : X) → Some x ≡ None → ⊥
 some_not_none x e = false≢true (sym (ap Rattle.std.proofs.Common.is_some e))
 
-both_none : {X : Type 0} (a b : Option X) → a ≡ None → b ≡ None → first_of a b ≡ None
-both_none a b e f = ap (λ o. first_of o b) e ∙ f
+both_none : {X : Type 0} (a b : Option X) → a ≡ None → b ≡ None → option_or a b ≡ None
+both_none a b e f = ap (λ o. option_or o b) e ∙ f
 
 -- ---- by lines the key does not matter
 
@@ -72,11 +73,11 @@ same_no_subject (Project vs A) e = same_no_subject A e
 same_no_subject (Distinct A) e = same_no_subject A e
 same_no_subject (Table vs rows) e = refl
 
-in_first : (key : Key) (a b : Option ℕ) → IsVariable key a → IsVariable key (first_of a b)
-in_first key a b h = (h.0, ap (λ o. first_of o b) h.1, h.2)
+in_first : (key : Key) (a b : Option ℕ) → IsVariable key a → IsVariable key (option_or a b)
+in_first key a b h = (h.0, ap (λ o. option_or o b) h.1, h.2)
 
-in_second : (key : Key) (a b : Option ℕ) → a ≡ None → IsVariable key b → IsVariable key (first_of a b)
-in_second key a b e h = (h.0, ap (λ o. first_of o b) e ∙ h.1, h.2)
+in_second : (key : Key) (a b : Option ℕ) → a ≡ None → IsVariable key b → IsVariable key (option_or a b)
+in_second key a b e h = (h.0, ap (λ o. option_or o b) e ∙ h.1, h.2)
 
 at_subject : (key : Key) (n : PatternTerm Term) → is_key_variable key n ≡ true → IsVariable key (variable_at n)
 at_subject (variable k) (variable v) e = (v, refl, ap variable (eqb-true k v e))
@@ -139,11 +140,11 @@ same_no_graph split (Project vs A) e = same_no_graph split A e
 same_no_graph split (Distinct A) e = same_no_graph split A e
 same_no_graph split (Table vs rows) e = refl
 
-first_name : (key : Key) (a b : Option algebra.GraphName) → IsName key a → IsName key (first_of a b)
-first_name key a b h = (h.0, ap (λ o. first_of o b) h.1, h.2)
+first_name : (key : Key) (a b : Option algebra.GraphName) → IsName key a → IsName key (option_or a b)
+first_name key a b h = (h.0, ap (λ o. option_or o b) h.1, h.2)
 
-second_name : (key : Key) (a b : Option algebra.GraphName) → a ≡ None → IsName key b → IsName key (first_of a b)
-second_name key a b e h = (h.0, ap (λ o. first_of o b) e ∙ h.1, h.2)
+second_name : (key : Key) (a b : Option algebra.GraphName) → a ≡ None → IsName key b → IsName key (option_or a b)
+second_name key a b e h = (h.0, ap (λ o. option_or o b) e ∙ h.1, h.2)
 
 no_pattern : (split : Split) (key : Key) (P : List (TriplePattern Term)) → has_names split ≡ true → is_apart_pattern split key P ≡ true → ⊥
 no_pattern by.Lines key P n e = false≢true n

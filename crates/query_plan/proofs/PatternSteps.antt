@@ -1,6 +1,7 @@
--- The condition on a basic graph pattern, over the triples of the code.
-use Rattle.std.proofs.Common.{◌≡◌, ◌&&◌, false, nat_eq, List, [], ◌∷◌, length, map, refl, ap}
+-- The condition on a basic graph pattern, over the triples of the code, and the first of two names.
+use Rattle.std.proofs.Common.{◌≡◌, ◌&&◌, false, nat_eq, List, [], ◌∷◌, Option, None, Some, length, map, refl, ap}
 use Rattle.std.specs.List.{list_all}
+use Rattle.std.specs.Option.{option_map, option_or}
 use Rattle.std.proofs.lemmas.Bool.{false≢true}
 use Rattle.sparql_algebra.specs.AlgebraOf.{pattern_term_of, triple_pattern_of}
 use Rattle.sparql_algebra.specs.declared.operator.TriplePattern.{TriplePattern}
@@ -16,3 +17,8 @@ pub key_triples : (key : Key) (ts : List TriplePattern) → false ≡ nat_eq (le
     → list_all (λ (t : TriplePattern). is_key_variable key (pattern_term_of t.subject)) ts ≡ is_apart_pattern by.Subject key (map triple_pattern_of ts)
 key_triples key [] e = absurd (false≢true e)
 key_triples key (t ∷ ts) e = ap (λ b. is_key_variable key (pattern_term_of t.subject) && b) (all_of_map key ts)
+
+-- the first of two values, mapped
+pub first_mapped : {X Y : Type 0} (f : X → Y) (a b : Option X) → option_map f (option_or a b) ≡ option_or (option_map f a) (option_map f b)
+first_mapped f None b = refl
+first_mapped f (Some x) b = refl

@@ -1,5 +1,6 @@
 -- The key of a split in the code, and the keys that can fit. Only private clauses use these definitions.
 use Rattle.std.specs.Prelude.{◌≡◌, ℕ, Bool, true, false, List, [], ◌∷◌, Option, Some, None}
+use Rattle.std.specs.Option.{option_or}
 use Rattle.rdf_core.specs.declared.term.Term.{Term}
 use Rattle.algebra_model.specs.Algebra.{Algebra, Pattern, Join, LeftJoin, Union, Minus, Graph, Filter, Extend, Project, Distinct, Table}
 use Rattle.algebra_model.specs.Algebra as algebra
@@ -21,11 +22,6 @@ has_names by.Subject = false
 has_names by.Graph = true
 has_names by.GraphWithDefault = true
 
--- the first of two values
-abbrev pub first_of : {X : Type 0} → Option X → Option X → Option X
-first_of None y = y
-first_of (Some x) y = Some x
-
 -- the variable at a position
 abbrev pub variable_at : PatternTerm Term → Option ℕ
 variable_at (variable v) = Some v
@@ -40,10 +36,10 @@ first_variable (t ∷ P) = variable_at t.s
 -- the first subject that is a variable and in the first triple pattern of its basic graph pattern
 abbrev pub first_subject : Algebra → Option ℕ
 first_subject (Pattern labels P) = first_variable P
-first_subject (Join A B) = first_of (first_subject A) (first_subject B)
-first_subject (LeftJoin A B e) = first_of (first_subject A) (first_subject B)
-first_subject (Union A B) = first_of (first_subject A) (first_subject B)
-first_subject (Minus A B) = first_of (first_subject A) (first_subject B)
+first_subject (Join A B) = option_or (first_subject A) (first_subject B)
+first_subject (LeftJoin A B e) = option_or (first_subject A) (first_subject B)
+first_subject (Union A B) = option_or (first_subject A) (first_subject B)
+first_subject (Minus A B) = option_or (first_subject A) (first_subject B)
 first_subject (Graph i A) = first_subject A
 first_subject (Filter e A) = first_subject A
 first_subject (Extend v e A) = first_subject A
@@ -54,10 +50,10 @@ first_subject (Table vs rows) = None
 -- the first name after GRAPH
 abbrev pub first_graph : Algebra → Option algebra.GraphName
 first_graph (Pattern labels P) = None
-first_graph (Join A B) = first_of (first_graph A) (first_graph B)
-first_graph (LeftJoin A B e) = first_of (first_graph A) (first_graph B)
-first_graph (Union A B) = first_of (first_graph A) (first_graph B)
-first_graph (Minus A B) = first_of (first_graph A) (first_graph B)
+first_graph (Join A B) = option_or (first_graph A) (first_graph B)
+first_graph (LeftJoin A B e) = option_or (first_graph A) (first_graph B)
+first_graph (Union A B) = option_or (first_graph A) (first_graph B)
+first_graph (Minus A B) = option_or (first_graph A) (first_graph B)
 first_graph (Graph i A) = Some i
 first_graph (Filter e A) = first_graph A
 first_graph (Extend v e A) = first_graph A

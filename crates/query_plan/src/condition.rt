@@ -34,17 +34,16 @@ fn has_no_graph(tree: &Operator) -> bool
     ensures value { result ≡ has_no_graph (algebra_of tree.now) }
 {
     match tree {
-        Operator::Pattern { .. } => true,
-        Operator::Join { left, right } => has_no_graph(left) && has_no_graph(right),
-        Operator::LeftJoin { left, right, .. } => has_no_graph(left) && has_no_graph(right),
-        Operator::Union { left, right } => has_no_graph(left) && has_no_graph(right),
-        Operator::Minus { left, right } => has_no_graph(left) && has_no_graph(right),
+        Operator::Pattern { .. } | Operator::Table { .. } => true,
         Operator::Graph { .. } => false,
-        Operator::Filter { inner, .. } => has_no_graph(inner),
-        Operator::Extend { inner, .. } => has_no_graph(inner),
-        Operator::Project { inner, .. } => has_no_graph(inner),
-        Operator::Distinct { inner } => has_no_graph(inner),
-        Operator::Table { .. } => true,
+        Operator::Join { left, right }
+        | Operator::LeftJoin { left, right, .. }
+        | Operator::Union { left, right }
+        | Operator::Minus { left, right } => has_no_graph(left) && has_no_graph(right),
+        Operator::Filter { inner, .. }
+        | Operator::Extend { inner, .. }
+        | Operator::Project { inner, .. }
+        | Operator::Distinct { inner } => has_no_graph(inner),
     }
 }
 
@@ -74,16 +73,16 @@ fn is_same(tree: &Operator, split: &Split) -> bool
 {
     match tree {
         Operator::Pattern { triples, .. } => triples.is_empty() || has_default(split),
-        Operator::Join { left, right } => is_same(left, split) && is_same(right, split),
-        Operator::LeftJoin { left, right, .. } => is_same(left, split) && is_same(right, split),
-        Operator::Union { left, right } => is_same(left, split) && is_same(right, split),
-        Operator::Minus { left, right } => is_same(left, split) && is_same(right, split),
-        Operator::Graph { .. } => false,
-        Operator::Filter { inner, .. } => is_same(inner, split),
-        Operator::Extend { inner, .. } => is_same(inner, split),
-        Operator::Project { inner, .. } => is_same(inner, split),
-        Operator::Distinct { inner } => is_same(inner, split),
         Operator::Table { .. } => true,
+        Operator::Graph { .. } => false,
+        Operator::Join { left, right }
+        | Operator::LeftJoin { left, right, .. }
+        | Operator::Union { left, right }
+        | Operator::Minus { left, right } => is_same(left, split) && is_same(right, split),
+        Operator::Filter { inner, .. }
+        | Operator::Extend { inner, .. }
+        | Operator::Project { inner, .. }
+        | Operator::Distinct { inner } => is_same(inner, split),
     }
 }
 
@@ -116,16 +115,12 @@ pub(crate) fn is_apart(tree: &Operator, split: &Split, key: &GraphName) -> bool
                 && (is_same(right, split) || has_keys(split) && is_apart(right, split, key))
                 || is_same(left, split) && is_apart(right, split, key)
         }
-        Operator::LeftJoin { left, right, .. } => {
+        Operator::LeftJoin { left, right, .. } | Operator::Minus { left, right } => {
             is_apart(left, split, key)
                 && (is_same(right, split) || has_keys(split) && is_apart(right, split, key))
         }
         Operator::Union { left, right } => {
             is_apart(left, split, key) && is_apart(right, split, key)
-        }
-        Operator::Minus { left, right } => {
-            is_apart(left, split, key)
-                && (is_same(right, split) || has_keys(split) && is_apart(right, split, key))
         }
         Operator::Graph { name, inner } => {
             has_no_graph(inner)
@@ -134,8 +129,9 @@ pub(crate) fn is_apart(tree: &Operator, split: &Split, key: &GraphName) -> bool
                     Split::Graph | Split::GraphWithDefault => is_key_name(key, name),
                 }
         }
-        Operator::Filter { inner, .. } => is_apart(inner, split, key),
-        Operator::Extend { inner, .. } => is_apart(inner, split, key),
+        Operator::Filter { inner, .. } | Operator::Extend { inner, .. } => {
+            is_apart(inner, split, key)
+        }
         Operator::Project { .. } | Operator::Distinct { .. } | Operator::Table { .. } => false,
     }
 }

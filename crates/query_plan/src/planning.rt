@@ -21,7 +21,7 @@ use sparql_read::{Query, QueryFault, read_query};
 use std::alloc::{AllocError, Global};
 
 /// How the results of the parts are merged.
-#[derive(Clone, Copy, Debug, Drop, PartialEq, Eq)]
+#[derive(Clone, Copy)]
 pub struct MergePlan {
     /// Whether each row is listed once.
     pub distinct: bool,
@@ -34,7 +34,7 @@ pub struct MergePlan {
 }
 
 /// How a query is evaluated on the parts of a dataset.
-#[derive(Debug, Drop)]
+#[derive(Drop)]
 pub struct PartsPlan {
     /// How the results of the parts are merged.
     pub merge: MergePlan,
@@ -43,7 +43,7 @@ pub struct PartsPlan {
 }
 
 /// Why a query cannot be evaluated on the parts of a dataset.
-#[derive(Clone, Copy, Debug, Drop, PartialEq, Eq)]
+#[derive(Clone, Copy)]
 pub enum PlanFault {
     /// A rule rejects the text of the query.
     Query,
