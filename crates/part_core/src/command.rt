@@ -10,7 +10,7 @@ use query_split::Split;
 const MOST_PARTITIONS: u64 = 65536;
 
 /// How results are merged.
-#[derive(Clone, Copy, Debug, Drop, PartialEq, Eq)]
+#[derive(Clone, Copy)]
 pub struct Merging {
     /// Whether each row is listed once.
     pub distinct: bool,
@@ -21,7 +21,7 @@ pub struct Merging {
 }
 
 /// A command.
-#[derive(Clone, Copy, Debug, Drop, PartialEq, Eq)]
+#[derive(Clone, Copy)]
 pub enum Command {
     /// `split check P`: splits what `spq check` counts of a block into P partitions.
     SplitCheck(u64),

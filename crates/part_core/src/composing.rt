@@ -1,12 +1,7 @@
 //! The output of a command for its input.
-ghost use Rattle.std.specs.Prelude.{◌≡◌, ◌<◌, ◌++◌, ℕ, List, codes, decimal, length, map, true, IfErr, IfOk, OnOk};
+ghost use Rattle.std.specs.Prelude.{◌≡◌, ◌<◌, ◌++◌, ℕ, codes, decimal, true, IfErr, IfOk, OnOk};
 ghost use Rattle.nquads_core.specs.Lines.{lines};
-ghost use Rattle.nquads_core.specs.Pieces.{HaveStatements, IsFirstMalformed};
-ghost use Rattle.rdf_core.specs.QuadParts.{QuadParts};
-ghost use Rattle.cluster_parts.specs.Seal.{all_sealed, joined_texts};
-ghost use Rattle.cluster_parts.specs.NumberList.{FitInEightBytes, number_list};
-ghost use Rattle.cluster_parts.specs.Output.{again_parts};
-ghost use Rattle.cluster_parts.specs.Repeated.{numbers_of};
+ghost use Rattle.nquads_core.specs.Pieces.{IsFirstMalformed};
 ghost use Rattle.part_core.specs.Output.{HasPartitions, IsAgain, IsBadBlock, IsBadInput, IsCounted, IsFirstOf, IsKeptOf, IsOutput, IsRepeatedIn, IsPlanned, IsQuadSplit, IsSplit, IsTermSplit, IsUnsealed, limit_word, merge_line};
 ghost use Rattle.part_core.specs.Refused.{IsRefusedInput, IsUnplanned, is_of_query};
 ghost use Rattle.result_merge.specs.Merging.{IsMerged};
@@ -25,19 +20,6 @@ use result_merge::merge;
 use std::alloc::{AllocError, Global};
 use std::hash::RandomState;
 
-/// Joins the sealed texts of the input.
-fn unsealed(alloc: Global, input: &[u8]) -> Result<Vec<u8>, PartFault>
-    ensures texts { IfOk result (λ joined. (texts : List (List ℕ))
-        × (input.now ≡ all_sealed texts) × (joined.items ≡ joined_texts texts)) }
-    ensures no_line { IfErr result (λ fault. (k : ℕ) → fault ≡ BadLine k → ⊥) }
-    ensures no_query { IfErr result (λ fault. is_of_query fault ≡ true → ⊥) }
-{
-    match join_sealed(alloc, input) {
-        Ok(joined) => Ok(joined),
-        Err(fault) => Err(PartFault::of_seal(fault)),
-    }
-}
-
 /// Returns a number as a line.
 fn number_line(alloc: Global, n: u64) -> Result<Vec<u8>, AllocError>
     ensures line { IfOk result (λ line. line.items ≡ decimal n ++ codes "\n") }
@@ -46,18 +28,6 @@ fn number_line(alloc: Global, n: u64) -> Result<Vec<u8>, AllocError>
     push_decimal(&mut line, n)?;
     line.extend_from_slice(b"\n")?;
     Ok(line)
-}
-
-/// Returns a number as a line.
-fn line_of_number(alloc: Global, n: u64) -> Result<Vec<u8>, PartFault>
-    ensures line { IfOk result (λ line. line.items ≡ decimal n ++ codes "\n") }
-    ensures no_line { IfErr result (λ fault. (k : ℕ) → fault ≡ BadLine k → ⊥) }
-    ensures no_query { IfErr result (λ fault. is_of_query fault ≡ true → ⊥) }
-{
-    match number_line(alloc, n) {
-        Ok(line) => Ok(line),
-        Err(_) => Err(PartFault::Memory),
-    }
 }
 
 /// Composes the output of `count`.
@@ -70,8 +40,10 @@ fn counted(alloc: Global, state: RandomState, input: &[u8]) -> Result<Vec<u8>, P
         Ok(count) => count,
         Err(fault) => return Err(PartFault::of_seal(fault)),
     };
-    let line = line_of_number(alloc, count)?;
-    Ok(line)
+    match number_line(alloc, count) {
+        Ok(line) => Ok(line),
+        Err(_) => Err(PartFault::Memory),
+    }
 }
 
 /// Composes the output of `repeated`.
@@ -83,45 +55,6 @@ fn repeated(alloc: Global, state: RandomState, input: &[u8]) -> Result<Vec<u8>, 
     match repeated_hashes(alloc, state, input) {
         Ok(out) => Ok(out),
         Err(fault) => Err(PartFault::of_seal(fault)),
-    }
-}
-
-/// Splits off a sealed list of hashes from each partition.
-fn hashes_and_block(
-    alloc: Global,
-    input: &[u8],
-    partitions: u64,
-) -> Result<(Vec<u64>, &[u8]), PartFault>
-    ensures lists { IfOk result (λ r. (lists : List (List ℕ)) × (length lists ≡ partitions) × (r.0.items ≡ numbers_of lists)
-        × (input.now ≡ all_sealed (map number_list lists) ++ r.1.now)) }
-    ensures fit { IfOk result (λ r. FitInEightBytes r.0.items) }
-    ensures no_line { IfErr result (λ fault. (k : ℕ) → fault ≡ BadLine k → ⊥) }
-    ensures no_query { IfErr result (λ fault. is_of_query fault ≡ true → ⊥) }
-{
-    match first_lists(alloc, input, partitions) {
-        Ok(parts) => Ok(parts),
-        Err(fault) => Err(PartFault::of_seal(fault)),
-    }
-}
-
-/// Splits the quads of a block that have one of the hashes.
-fn split_block_again(
-    alloc: Global,
-    state: RandomState,
-    hashes: &[u64],
-    block: &[u8],
-    partitions: u64,
-) -> Result<Vec<u8>, PartFault>
-    requires some { 0 < partitions }
-    ensures parts { IfOk result (λ out. (quads : List QuadParts) × HaveStatements (lines block.now) quads
-        × (out.items ≡ again_parts hashes.now partitions quads)) }
-    ensures bad_line { IfErr result
-        (λ fault. (k : ℕ) → fault ≡ BadLine k → IsFirstMalformed (lines block.now) k) }
-    ensures no_query { IfErr result (λ fault. is_of_query fault ≡ true → ⊥) }
-{
-    match split_again(alloc, state, hashes, block, partitions) {
-        Ok(out) => Ok(out),
-        Err(fault) => Err(PartFault::of_piece(fault)),
     }
 }
 
@@ -137,10 +70,13 @@ fn again(
     ensures bad_line { IfErr result (λ fault. (k : ℕ) → fault ≡ BadLine k → IsBadBlock partitions input.now k) }
     ensures no_query { IfErr result (λ fault. is_of_query fault ≡ true → ⊥) }
 {
-    let (hashes, block) = hashes_and_block(alloc, input, partitions)?;
-    match split_block_again(alloc, state, hashes.as_slice(), block, partitions) {
+    let (hashes, block) = match first_lists(alloc, input, partitions) {
+        Ok(parts) => parts,
+        Err(fault) => return Err(PartFault::of_seal(fault)),
+    };
+    match split_again(alloc, state, &hashes, block, partitions) {
         Ok(out) => Ok(out),
-        Err(fault) => Err(fault),
+        Err(fault) => Err(PartFault::of_piece(fault)),
     }
 }
 
@@ -208,8 +144,10 @@ fn unsealed_text(alloc: Global, input: &[u8]) -> Result<Vec<u8>, PartFault>
     ensures no_line { IfErr result (λ fault. (k : ℕ) → fault ≡ BadLine k → ⊥) }
     ensures no_query { IfErr result (λ fault. is_of_query fault ≡ true → ⊥) }
 {
-    let text = unsealed(alloc, input)?;
-    Ok(text)
+    match join_sealed(alloc, input) {
+        Ok(joined) => Ok(joined),
+        Err(fault) => Err(PartFault::of_seal(fault)),
+    }
 }
 
 /// Composes the output of `first`.
@@ -282,11 +220,11 @@ fn plan_text(alloc: Global, plan: &PartsPlan) -> Result<Vec<u8>, AllocError>
         ≡ merge_line plan.now.merge.distinct plan.now.merge.offset plan.now.merge.limit
         ++ (merge_line plan.now.merge.distinct 0 plan.now.merge.kept ++ plan.now.query.items)) }
 {
-    let merge = plan.merge;
+    let merge = &plan.merge;
     let mut out = Vec::new(alloc);
     push_merge(&mut out, merge.distinct, merge.offset, merge.limit)?;
     push_merge(&mut out, merge.distinct, 0, merge.kept)?;
-    out.extend_from_slice(plan.query.as_slice())?;
+    out.extend_from_slice(&plan.query)?;
     Ok(out)
 }
 

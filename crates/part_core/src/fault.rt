@@ -10,7 +10,7 @@ use query_plan::PlanFault;
 use result_merge::MergeFault;
 
 /// Why a command was not done.
-#[derive(Clone, Copy, Debug, Drop, PartialEq, Eq)]
+#[derive(Clone, Copy)]
 pub enum PartFault {
     /// The line of the block, counted from 0, is the first malformed line.
     BadLine(u64),

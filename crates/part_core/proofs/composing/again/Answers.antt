@@ -3,27 +3,27 @@ use Rattle.cluster_parts.specs.NumberList.{FitInEightBytes}
 use Rattle.cluster_parts.specs.Output.{again_parts}
 use Rattle.part_core.proofs.composing.again.Goals as goal
 
-pub returns-in-Ok-clause-output : goal.returns-in-Ok-clause-output
-returns-in-Ok-clause-output c =
-    let found = c.in-Ok.ensures.parts in
-    let read = c.in_ok-hashes.ensures.lists in record {
+pub returns-in-Ok-split_again-clause-output : goal.returns-in-Ok-split_again-clause-output
+returns-in-Ok-split_again-clause-output c =
+    let found = c.in-Ok-split_again.ensures.parts in
+    let read = c.in-Ok.ensures.lists in record {
       lists = read.0;
-      block = c.in_ok-hashes.block.now;
+      block = c.in-Ok.parts.1.now;
       quads = found.0;
       one_each = read.1;
-      fit = subst FitInEightBytes read.2 c.in_ok-hashes.ensures.fit;
+      fit = subst FitInEightBytes read.2 c.in-Ok.ensures.fit;
       unsealed = read.3;
       statements = found.1;
-      parts = found.2 ∙ ap (λ hs. again_parts hs c.args.partitions found.0) (c.as_slice.ensures.value ∙ read.2);
+      parts = found.2 ∙ ap (λ hs. again_parts hs c.args.partitions found.0) (c.deref.ensures.value ∙ read.2);
     }
 
 pub returns-clause-bad_line : goal.returns-clause-bad_line
 returns-clause-bad_line c = λ k e.
-    let read = c.in_ok-hashes.ensures.lists in record {
+    let read = c.in-Ok.ensures.lists in record {
       lists = read.0;
-      block = c.in_ok-hashes.block.now;
+      block = c.in-Ok.parts.1.now;
       one_each = read.1;
-      fit = subst FitInEightBytes read.2 c.in_ok-hashes.ensures.fit;
+      fit = subst FitInEightBytes read.2 c.in-Ok.ensures.fit;
       unsealed = read.3;
-      malformed = c.in-Err.ensures.bad_line k e;
+      malformed = c.in-Err-split_again.ensures.bad_line k (c.of_piece.ensures.bad_line k e);
     }
