@@ -1,7 +1,7 @@
 //! How a dataset is split into parts.
 
 /// How a dataset is split into parts.
-#[derive(Clone, Copy, Debug, Drop, PartialEq, Eq)]
+#[derive(Clone, Copy)]
 pub enum Split {
     /// No quad is in two parts.
     Lines,
