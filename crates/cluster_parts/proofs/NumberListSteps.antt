@@ -1,11 +1,12 @@
 -- Lists of numbers are written and read as texts.
-use Rattle.std.proofs.Common.{◌≡◌, ℕ, zero, suc, ◌+◌, ◌-◌, ◌<◌, ◌≤◌, List, [], ◌∷◌, ◌++◌, length, get_or, take, drop, replicate, sym, ap, subst, ◌∙◌, arith, append_assoc, append-nil, length-append}
+use Rattle.std.proofs.Common.{◌≡◌, ℕ, zero, suc, ◌+◌, ◌-◌, ◌<◌, ◌≤◌, List, [], ◌∷◌, ◌++◌, length, get_or, take, drop, replicate, refl, sym, ap, subst, ◌∙◌, arith, append_assoc, append-nil, length-append}
 use Rattle.std.specs.Int.{w64, from_le_bytes, to_le_bytes}
 use Rattle.std.proofs.lemmas.Grind.{flat_map-append}
 use Rattle.std.proofs.lemmas.List.{length-replicate, take-append-drop, take-append-le, take_all, take_more}
 use Rattle.std.proofs.lemmas.Nat.{le_bytes_8}
 use Rattle.byteorder.specs.Endian.{little_bytes, little_from, little_number}
 use Rattle.byteorder.proofs.Bytes.{little_from-zeros_after, take-bytes_low_first}
+use Rattle.cluster_parts.specs.Hash.{number_bytes}
 use Rattle.cluster_parts.specs.NumberList.{difference, differences, in_bytes, number_list, width}
 
 -- ---- numbers in bytes
@@ -44,6 +45,11 @@ first_number k bytes front back most small f b long n is =
     let again : little_bytes k n ≡ front =
     ap (little_bytes k) is ∙ written_back k front most long (subst (λ l. (i : ℕ) → get_or l i 0 < 256) (sym f) (small_take k bytes small)) in
     sym ((λ i. f i ++ b i) ∙ take-append-drop k bytes) ∙ ap (λ l. l ++ back) (sym again)
+
+-- a number in eight bytes
+pub eight_bytes : (n : ℕ) → little_bytes 8 n ≡ number_bytes n
+unfolding number_bytes
+eight_bytes n = refl
 
 -- one more number is written
 pub one_more_in_bytes : (k : ℕ) (numbers : List ℕ) (i : ℕ) (before out out' bytes : List ℕ) → k ≤ 8 → i < length numbers → bytes ≡ to_le_bytes w64 (get_or numbers i 0)

@@ -7,11 +7,7 @@ use Rattle.std.specs.List.{AllByRecursion, IsDistinct, dedup, flat_map, cons_opt
 use Rattle.std.specs.Ordering.{nat_cmp}
 use Rattle.std.proofs.lemmas.Bool.{eqb-true}
 use Rattle.std.proofs.lemmas.Bool.Decides.{Decides-eqb}
-use Rattle.std.proofs.lemmas.List.{take_more, get_or-map, take-append-drop}
-use Rattle.std.proofs.lemmas.Nat.{le_bytes_8}
-use Rattle.std.specs.Int.{w64, from_le_bytes, to_le_bytes}
-use Rattle.std.specs.Prelude.{IfSome, MatchOption}
-use Rattle.std.specs.Borrow.{Bor}
+use Rattle.std.proofs.lemmas.List.{take_more, get_or-map}
 use Rattle.std.proofs.lemmas.Option.{slice_get_within, unwrap_or-slice_get}
 use Rattle.std.proofs.lemmas.Grind.{flat_map-append}
 use Rattle.std.proofs.lemmas.List.Elements.{All-nil, filter-append, filter_map-append}
@@ -396,24 +392,6 @@ keys_are contained hashes quads quad_hashes keys same hashed made =
     over (q ∷ qs) = (λ i. (if same (quad_hash q) i then Some (quad_hash q) else None) ∷ over qs i)
 
 -- ---- the beginning of a sealed text
-
-pub some_rest : (r : Option (Bor (List ℕ))) (bytes head : List ℕ) → MatchOption r ((rest : List ℕ) → bytes ≡ head ++ rest → ⊥) (λ x. bytes ≡ head ++ x.now) → IfSome r (λ x. bytes ≡ head ++ x.now)
-some_rest None bytes head h = tt
-some_rest (Some x) bytes head h = h
-
-small_take : (n : ℕ) (xs : List ℕ) → ((i : ℕ) → get_or xs i 0 < 256) → (i : ℕ) → get_or (take n xs) i 0 < 256
-small_take zero xs h i = omega arith
-small_take (suc n) [] h i = omega arith
-small_take (suc n) (x ∷ xs) h zero = h 0
-small_take (suc n) (x ∷ xs) h (suc i) = small_take n xs (λ j. h (suc j)) i
-
-pub number_first : (bytes front back : List ℕ) (n : ℕ) → ((i : ℕ) → get_or bytes i 0 < 256) → front ≡ take 8 bytes → back ≡ drop 8 bytes → length front ≡ 8 → n ≡ from_le_bytes w64 front
-    → bytes ≡ number_bytes n ++ back
-unfolding number_bytes
-number_first bytes front back n small f b long e =
-    let whole : bytes ≡ front ++ back = sym ((λ i. f i ++ b i) ∙ take-append-drop 8 bytes) in
-    let again : to_le_bytes w64 n ≡ front = le_bytes_8 front n long (λ i. subst (λ l. get_or l i 0 < 256) (sym f) (small_take 8 bytes small i)) e in
-    whole ∙ ap (λ l. l ++ back) (sym again)
 
 pub sealed_first : (bytes first second third text after : List ℕ) (len checksum : ℕ) → bytes ≡ seal_head ++ first → first ≡ number_bytes len ++ second → second ≡ number_bytes checksum ++ third
     → third ≡ text ++ after → len ≡ length text → checksum ≡ hash text → bytes ≡ sealed text ++ after

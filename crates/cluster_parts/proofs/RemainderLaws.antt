@@ -6,12 +6,16 @@ use Rattle.std.proofs.lemmas.List.Elements.{filter-append}
 use Rattle.std.proofs.lemmas.Option.{slice_get_within}
 use Rattle.std.proofs.lemmas.Nat.{mod-mul-add, mod_below}
 use Rattle.rdf_core.specs.QuadParts.{QuadParts}
+use Rattle.dict_core.specs.declared.num_quad.NumQuad.{NumQuad}
+use Rattle.text_pieces.specs.Forms.{AreNumberedBy}
 use Rattle.cluster_parts.specs.Hash.{hash}
-use Rattle.cluster_parts.specs.Keys.{reduced_key, remainders}
+use Rattle.cluster_parts.specs.Keys.{key_by_numbers, key_of, reduced_key, remainders}
 use Rattle.cluster_parts.specs.Output.{quads_part}
 use Rattle.cluster_parts.specs.Parts.{has_key, is_in, quad_document, texts_below}
 use Rattle.cluster_parts.specs.Seal.{sealed}
-use Rattle.cluster_parts.proofs.PartSteps.{at_place}
+use Rattle.cluster_parts.specs.declared.key_splits.QuadKey.{QuadKey}
+use Rattle.cluster_parts.specs.declared.key_splits.QuadKey.TheVariants.{Subject, Graph}
+use Rattle.cluster_parts.proofs.PartSteps.{at_place, graph_keys_are, subject_keys_are}
 
 pub remainder_below : (h k : ℕ) → h < k → h % k ≡ h
 remainder_below h k low =
@@ -21,6 +25,19 @@ remainder_below h k low =
 pub map_twice : {A B C : Type 0} (f : B → C) (g : A → B) (xs : List A) → map f (map g xs) ≡ map (λ x. f (g x)) xs
 map_twice f g [] = refl
 map_twice f g (x ∷ xs) = ap (λ l. f (g x) ∷ l) (map_twice f g xs)
+
+-- the keys of the quads of a block
+quad_keys_are : (kind : QuadKey) (quads : List QuadParts) (texts : List (List ℕ)) (numbered : List NumQuad) (hashes : List ℕ) → AreNumberedBy quads texts numbered → hashes ≡ map hash texts
+    → map (key_by_numbers kind hashes) numbered ≡ map (key_of kind) quads
+quad_keys_are Subject quads texts numbered hashes h are = subject_keys_are quads texts numbered hashes _ h are refl
+quad_keys_are Graph quads texts numbered hashes h are = graph_keys_are quads texts numbered hashes _ h are refl
+
+-- the numbers of the partitions of the quads of a block
+pub reduced_keys_are : (kind : QuadKey) (k : ℕ) (quads : List QuadParts) (texts : List (List ℕ)) (numbered : List NumQuad) (hashes : List ℕ) (keys : List (Option ℕ)) → AreNumberedBy quads texts numbered
+    → hashes ≡ map hash texts → keys ≡ map (λ q. option_map (λ h. h % k) (key_by_numbers kind hashes q)) numbered → keys ≡ map (reduced_key k (key_of kind)) quads
+reduced_keys_are kind k quads texts numbered hashes keys h are made =
+    let reduced = λ (key : Option ℕ). option_map (λ n. n % k) key in
+    made ∙ sym (map_twice reduced (key_by_numbers kind hashes) numbered) ∙ ap (map reduced) (quad_keys_are kind quads texts numbered hashes h are) ∙ map_twice reduced (key_of kind) quads
 
 module _ (k : ℕ) (some : 0 < k) where
   reduced_same : (n : ℕ) (key : Option ℕ) → has_key k n (option_map (λ h. h % k) key) ≡ has_key k n key

@@ -1,5 +1,5 @@
 //! The graph names of the quads of a block.
-ghost use Rattle.std.specs.Prelude.{◌≡◌, ◌<◌, IfOk, OnOk, [], List, length};
+ghost use Rattle.std.specs.Prelude.{◌≡◌, IfOk, OnOk, [], List, length};
 ghost use Rattle.std.specs.Option.{option_to_list};
 ghost use Rattle.indexmap.specs.IndexSet.{insert_all};
 ghost use Rattle.rdf_core.specs.declared.term.Term.{Term};
@@ -7,24 +7,14 @@ ghost use Rattle.rdf_core.specs.Equality.{term_eq};
 ghost use Rattle.rdf_core.specs.QuadParts.{QuadParts};
 ghost use Rattle.dict_core.specs.NumQuad.{AreBelow, IsBelow, quad_at};
 ghost use Rattle.algebra_model.specs.Dataset.{names};
-ghost use Rattle.text_dict.specs.TextDict.{IsAdded};
 ghost use Rattle.text_pieces.specs.Forms.{AreFormsOf, AreNumberedBy};
-ghost use Rattle.cluster_parts.specs.Numbered.{AreQuadsOf, text_at};
+ghost use Rattle.cluster_parts.specs.Numbered.{AreQuadsOf};
 
 use crate::numbering::{NumberedLines, text_of};
 use dict_core::NumQuad;
 use std::alloc::{AllocError, Global};
 use std::hash::RandomState;
 use text_dict::TextDict;
-
-/// Adds the text with this number to the names, if it is not among them.
-fn add_name(known: &mut TextDict, texts: &TextDict, number: u64) -> Result<(), AllocError>
-    requires below { number < length texts.now.texts }
-    ensures names { OnOk result (IsAdded known.old.texts (text_at texts.now.texts number) known.new.texts) }
-{
-    known.intern(text_of(texts, number))?;
-    Ok(())
-}
 
 /// Adds the graph name of a quad, if it has one.
 fn add_name_of(known: &mut TextDict, texts: &TextDict, quad: &NumQuad) -> Result<(), AllocError>
@@ -34,7 +24,7 @@ fn add_name_of(known: &mut TextDict, texts: &TextDict, quad: &NumQuad) -> Result
 {
     match quad.g {
         Some(number) => {
-            add_name(known, texts, number)?;
+            known.intern(text_of(texts, number))?;
             Ok(())
         }
         None => Ok(()),

@@ -1,18 +1,17 @@
 //! The quads of a block by subject or by graph name.
-ghost use Rattle.std.specs.Prelude.{◌≡◌, ◌<◌, ◌%◌, ◌++◌, ℕ, List, Option, Some, get_or, length, map, IfErr, IfOk, OnOk};
-ghost use Rattle.std.specs.Option.{option_map, ForSome};
+ghost use Rattle.std.specs.Prelude.{◌≡◌, ◌<◌, ◌%◌, ℕ, List, length, map, IfErr, IfOk};
+ghost use Rattle.std.specs.Option.{option_map};
 ghost use Rattle.rdf_core.specs.QuadParts.{QuadParts};
 ghost use Rattle.nquads_core.specs.Lines.{lines};
 ghost use Rattle.nquads_core.specs.Pieces.{HaveStatements, IsFirstMalformed};
 ghost use Rattle.nquads_core.specs.declared.fault.PieceFault.TheVariants.{BadLine};
 ghost use Rattle.dict_core.specs.NumQuad.{AreBelow, IsBelow};
-ghost use Rattle.cluster_parts.specs.Hash.{graph_key, hash, subject_key};
-ghost use Rattle.cluster_parts.specs.Keys.{key_of, reduced_key};
+ghost use Rattle.cluster_parts.specs.Keys.{key_by_numbers, key_of, reduced_key};
 ghost use Rattle.cluster_parts.specs.Numbered.{AreQuadsOf};
 ghost use Rattle.cluster_parts.specs.Output.{keyed_parts};
 
 use crate::hashing::text_hashes;
-use crate::keyed::{push_keyed_parts, unkeyed_part};
+use crate::keyed::{part_of, push_keyed_parts};
 use crate::numbering::{NumberedLines, number_lines};
 use crate::sealing::{push_sealed, push_sealed_number};
 use dict_core::NumQuad;
@@ -21,7 +20,7 @@ use std::alloc::{AllocError, Global};
 use std::hash::RandomState;
 
 /// What decides the partition of a quad.
-#[derive(Clone, Copy, Debug, Drop, PartialEq, Eq)]
+#[derive(Clone, Copy)]
 pub enum QuadKey {
     /// The subject.
     Subject,
@@ -29,94 +28,17 @@ pub enum QuadKey {
     Graph,
 }
 
-/// Returns the hash of the graph name with this number, if there is one.
-fn name_key(hashes: &[u64], name: Option<u64>) -> Option<u64>
-    requires below { ForSome name (λ n. n < length hashes.now) }
-    ensures value { result ≡ option_map (λ n. get_or hashes.now n 0) name }
+/// Returns the key of a quad of numbers. `hashes` are those of the terms.
+fn key_of_quad(hashes: &[u64], quad: &NumQuad, key: &QuadKey) -> Option<u64>
+    requires below { IsBelow (length hashes.now) quad.now }
+    ensures value { result ≡ key_by_numbers key.now hashes.now quad.now }
 {
-    match name {
-        Some(name) => Some(hashes[name as usize]),
-        None => None,
-    }
-}
-
-/// Returns the hashes of the graph names of quads.
-fn graph_keys(
-    alloc: Global,
-    hashes: &[u64],
-    quads: &[NumQuad],
-) -> Result<Vec<Option<u64>>, AllocError>
-    requires below { AreBelow (length hashes.now) quads.now }
-    ensures keys { IfOk result
-        (λ keys. keys.items ≡ map (λ q. option_map (λ n. get_or hashes.now n 0) q.g) quads.now) }
-{
-    let mut keys = Vec::with_capacity(alloc, quads.len())?;
-    for quad in quads {
-        keys.push(name_key(hashes, quad.g))?;
-    }
-    Ok(keys)
-}
-
-/// Returns the hashes of the subjects of quads.
-fn subject_keys(
-    alloc: Global,
-    hashes: &[u64],
-    quads: &[NumQuad],
-) -> Result<Vec<Option<u64>>, AllocError>
-    requires below { AreBelow (length hashes.now) quads.now }
-    ensures keys { IfOk result (λ keys. keys.items ≡ map (λ q. Some (get_or hashes.now q.s 0)) quads.now) }
-{
-    let mut keys = Vec::with_capacity(alloc, quads.len())?;
-    for quad in quads {
-        keys.push(Some(hashes[quad.s as usize]))?;
-    }
-    Ok(keys)
-}
-
-/// Returns the keys of the quads of a block by graph name. `hashes` are those of its terms.
-fn keys_by_graph(
-    alloc: Global,
-    hashes: &[u64],
-    block: &NumberedLines,
-) -> Result<Vec<Option<u64>>, AllocError>
-    requires read { (quads : List QuadParts) × AreQuadsOf quads block.now }
-    requires hashed { hashes.now ≡ map hash block.now.texts.texts }
-    ensures keys { IfOk result (λ keys. (quads : List QuadParts) → AreQuadsOf quads block.now
-        → keys.items ≡ map graph_key quads) }
-{
-    let keys = graph_keys(alloc, hashes, block.quads.as_slice())?;
-    Ok(keys)
-}
-
-/// Returns the keys of the quads of a block by subject. `hashes` are those of its terms.
-fn keys_by_subject(
-    alloc: Global,
-    hashes: &[u64],
-    block: &NumberedLines,
-) -> Result<Vec<Option<u64>>, AllocError>
-    requires read { (quads : List QuadParts) × AreQuadsOf quads block.now }
-    requires hashed { hashes.now ≡ map hash block.now.texts.texts }
-    ensures keys { IfOk result (λ keys. (quads : List QuadParts) → AreQuadsOf quads block.now
-        → keys.items ≡ map subject_key quads) }
-{
-    let keys = subject_keys(alloc, hashes, block.quads.as_slice())?;
-    Ok(keys)
-}
-
-/// Returns the keys of the quads of a block.
-fn keys_of(
-    alloc: Global,
-    block: &NumberedLines,
-    key: &QuadKey,
-) -> Result<Vec<Option<u64>>, AllocError>
-    requires read { (quads : List QuadParts) × AreQuadsOf quads block.now }
-    ensures keys { IfOk result (λ keys. (quads : List QuadParts) → AreQuadsOf quads block.now
-        → keys.items ≡ map (key_of key.now) quads) }
-{
-    let hashes = text_hashes(alloc, &block.texts)?;
     match key {
-        QuadKey::Subject => keys_by_subject(alloc, hashes.as_slice(), block),
-        QuadKey::Graph => keys_by_graph(alloc, hashes.as_slice(), block),
+        QuadKey::Subject => Some(hashes[quad.s as usize]),
+        QuadKey::Graph => match quad.g {
+            Some(name) => Some(hashes[name as usize]),
+            None => None,
+        },
     }
 }
 
@@ -131,18 +53,22 @@ fn reduced(key: Option<u64>, partitions: u64) -> Option<u64>
     }
 }
 
-/// Returns the numbers of the partitions that have these keys.
-fn all_reduced(
+/// Returns the number of the partition that has the key of each quad.
+fn reduced_keys(
     alloc: Global,
-    keys: &[Option<u64>],
+    hashes: &[u64],
+    quads: &[NumQuad],
+    key: &QuadKey,
     partitions: u64,
 ) -> Result<Vec<Option<u64>>, AllocError>
+    requires below { AreBelow (length hashes.now) quads.now }
     requires some { 0 < partitions }
-    ensures keys { IfOk result (λ made. made.items ≡ map (option_map (λ h. h % partitions)) keys.now) }
+    ensures keys { IfOk result (λ made. made.items
+        ≡ map (λ q. option_map (λ h. h % partitions) (key_by_numbers key.now hashes.now q)) quads.now) }
 {
-    let mut made = Vec::with_capacity(alloc, keys.len())?;
-    for key in keys {
-        made.push(reduced(*key, partitions))?;
+    let mut made = Vec::with_capacity(alloc, quads.len())?;
+    for quad in quads {
+        made.push(reduced(key_of_quad(hashes, quad, key), partitions))?;
     }
     Ok(made)
 }
@@ -160,9 +86,14 @@ fn reduced_keys_of(
     ensures keys { IfOk result (λ keys. (quads : List QuadParts) → AreQuadsOf quads block.now
         → keys.items ≡ map (reduced_key partitions (key_of key.now)) quads) }
 {
-    let keys = keys_of(alloc, block, key)?;
-    let made = all_reduced(alloc, keys.as_slice(), partitions)?;
-    Ok(made)
+    let hashes = text_hashes(alloc, &block.texts)?;
+    reduced_keys(
+        alloc,
+        hashes.as_slice(),
+        block.quads.as_slice(),
+        key,
+        partitions,
+    )
 }
 
 /// Returns the parts of a block that has been read.
@@ -178,7 +109,7 @@ fn parts_by_key(
         → out.items ≡ keyed_parts (key_of key.now) partitions block.now.lines quads) }
 {
     let keys = reduced_keys_of(alloc, block, key, partitions)?;
-    let unkeyed = unkeyed_part(alloc, block, keys.as_slice())?;
+    let unkeyed = part_of(alloc, block, keys.as_slice(), partitions, None)?;
     let mut out = Vec::new(alloc);
     push_sealed_number(alloc, &mut out, block.lines)?;
     push_sealed(&mut out, unkeyed.as_slice())?;

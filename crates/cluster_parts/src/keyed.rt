@@ -1,10 +1,11 @@
 //! The quads of a block by partition, by a key of each quad.
-ghost use Rattle.std.specs.Prelude.{◌≡◌, ◌<◌, ◌++◌, [], ℕ, List, Option, codes, filter, is_none, if◌then◌else◌, length, map, IfOk, OnOk};
+ghost use Rattle.std.specs.Prelude.{◌≡◌, ◌<◌, ◌++◌, [], ℕ, List, Option, codes, filter, if◌then◌else◌, length, map, IfOk, OnOk};
 ghost use Rattle.std.specs.Option.{ForSome};
 ghost use Rattle.rdf_core.specs.QuadParts.{QuadParts};
 ghost use Rattle.dict_core.specs.NumQuad.{IsBelow};
 ghost use Rattle.cluster_parts.specs.Numbered.{AreQuadsOf, end_by_number, line_by_numbers, text_at};
-ghost use Rattle.cluster_parts.specs.Parts.{has_key, quad_document, quads_in, texts_below};
+ghost use Rattle.cluster_parts.specs.Keys.{is_chosen};
+ghost use Rattle.cluster_parts.specs.Parts.{quad_document, texts_below};
 ghost use Rattle.cluster_parts.specs.Output.{quads_part};
 
 use crate::numbering::{NumberedLines, text_of};
@@ -51,91 +52,56 @@ fn push_quad(out: &mut Vec<u8>, texts: &TextDict, quad: &NumQuad) -> Result<(), 
     Ok(())
 }
 
-/// Returns whether the partition has the key, if there is one.
-fn has_key(partitions: u64, number: u64, key: Option<u64>) -> bool
+/// Returns whether a part has the quads with this key. `number` is that of a partition, or None for the quads without a key.
+fn is_chosen(partitions: u64, number: Option<u64>, key: Option<u64>) -> bool
     requires some { 0 < partitions }
-    ensures value { result ≡ has_key partitions number key }
+    ensures value { result ≡ is_chosen partitions number key }
 {
-    match key {
-        Some(key) => is_in(partitions, number, key),
-        None => false,
+    match (number, key) {
+        (Some(number), Some(key)) => is_in(partitions, number, key),
+        (None, None) => true,
+        _ => false,
     }
 }
 
-/// Appends a quad if the partition has its key.
-fn push_if_keyed(
+/// Appends a quad if the part has its key.
+fn push_if_chosen(
     out: &mut Vec<u8>,
     texts: &TextDict,
     quad: &NumQuad,
     key: Option<u64>,
     partitions: u64,
-    number: u64,
+    number: Option<u64>,
 ) -> Result<(), AllocError>
     requires below { IsBelow (length texts.now.texts) quad.now }
     requires some { 0 < partitions }
     ensures appended { OnOk result (out.new.items ≡ out.old.items
-        ++ (if has_key partitions number key then line_by_numbers texts.now.texts quad.now else [])) }
+        ++ (if is_chosen partitions number key then line_by_numbers texts.now.texts quad.now else [])) }
 {
-    if has_key(partitions, number, key) {
+    if is_chosen(partitions, number, key) {
         push_quad(out, texts, quad)?;
     }
     Ok(())
 }
 
-/// Appends a quad if it has no key.
-fn push_if_unkeyed(
-    out: &mut Vec<u8>,
-    texts: &TextDict,
-    quad: &NumQuad,
-    key: Option<u64>,
-) -> Result<(), AllocError>
-    requires below { IsBelow (length texts.now.texts) quad.now }
-    ensures appended { OnOk result (out.new.items ≡ out.old.items
-        ++ (if is_none key then line_by_numbers texts.now.texts quad.now else [])) }
-{
-    if key.is_none() {
-        push_quad(out, texts, quad)?;
-    }
-    Ok(())
-}
-
-/// Returns the quads that have no key as a document.
-pub(crate) fn unkeyed_part(
-    alloc: Global,
-    block: &NumberedLines,
-    keys: &[Option<u64>],
-) -> Result<Vec<u8>, AllocError>
-    requires read { (quads : List QuadParts) × AreQuadsOf quads block.now }
-    requires all { length keys.now ≡ length block.now.quads.items }
-    ensures part { IfOk result (λ text. (quads : List QuadParts) (key : QuadParts → Option ℕ)
-        → AreQuadsOf quads block.now → keys.now ≡ map key quads
-        → text.items ≡ quad_document (filter (λ q. is_none (key q)) quads)) }
-{
-    let mut text = Vec::new(alloc);
-    for i in 0..block.quads.len() {
-        push_if_unkeyed(&mut text, &block.texts, &block.quads[i], keys[i])?;
-    }
-    Ok(text)
-}
-
-/// Returns the quads of a partition as a document, by the key of each.
-fn keyed_part(
+/// Returns the quads of a partition, or those without a key, as a document.
+pub(crate) fn part_of(
     alloc: Global,
     block: &NumberedLines,
     keys: &[Option<u64>],
     partitions: u64,
-    number: u64,
+    number: Option<u64>,
 ) -> Result<Vec<u8>, AllocError>
     requires read { (quads : List QuadParts) × AreQuadsOf quads block.now }
     requires all { length keys.now ≡ length block.now.quads.items }
     requires some { 0 < partitions }
     ensures part { IfOk result (λ text. (quads : List QuadParts) (key : QuadParts → Option ℕ)
         → AreQuadsOf quads block.now → keys.now ≡ map key quads
-        → text.items ≡ quad_document (quads_in key partitions number quads)) }
+        → text.items ≡ quad_document (filter (λ q. is_chosen partitions number (key q)) quads)) }
 {
     let mut text = Vec::new(alloc);
     for i in 0..block.quads.len() {
-        push_if_keyed(
+        push_if_chosen(
             &mut text,
             &block.texts,
             &block.quads[i],
@@ -163,7 +129,7 @@ pub(crate) fn push_keyed_parts(
         → out.new.items ≡ out.old.items ++ texts_below (quads_part key partitions quads) partitions) }
 {
     for number in 0..partitions {
-        let part = keyed_part(alloc, block, keys, partitions, number)?;
+        let part = part_of(alloc, block, keys, partitions, Some(number))?;
         push_sealed(out, part.as_slice())?;
     }
     Ok(())

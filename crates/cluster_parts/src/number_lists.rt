@@ -1,12 +1,10 @@
 //! Lists of numbers as texts: the number of bytes of a difference, and the differences.
 ghost use Rattle.std.specs.Prelude.{◌≡◌, ◌≤◌, ◌∷◌, ◌++◌, [], List, ℕ, length, map, IfOk, OnOk};
-ghost use Rattle.byteorder.specs.Endian.{little_bytes};
 ghost use Rattle.cluster_parts.specs.NumberList.{FitInEightBytes, byte_count, difference, differences, in_bytes, number_list, width};
 ghost use Rattle.cluster_parts.specs.Repeated.{numbers_of};
 ghost use Rattle.cluster_parts.specs.Seal.{all_sealed, sealed};
 
-use crate::sealing::{SealFault, first_sealed, push_sealed};
-use byteorder::{ByteOrder, LittleEndian};
+use crate::sealing::{SealFault, first_in_bytes, first_sealed, push_sealed};
 use std::alloc::{AllocError, Global};
 
 /// Appends a number.
@@ -110,19 +108,6 @@ pub(crate) fn push_sealed_list(
     let mut text = Vec::new(alloc);
     push_number_list(alloc, &mut text, numbers)?;
     push_sealed(out, text.as_slice())
-}
-
-/// Splits off the first `count` bytes, as a number.
-fn first_in_bytes(bytes: &[u8], count: usize) -> Result<(u64, &[u8]), SealFault>
-    requires some { 1 ≤ count }
-    requires most { count ≤ 8 }
-    ensures parts { IfOk result (λ r. bytes.now ≡ little_bytes count r.0 ++ r.1.now) }
-{
-    if bytes.len() < count {
-        return Err(SealFault::Damaged);
-    }
-    let (number, rest) = bytes.split_at(count);
-    Ok((LittleEndian::read_uint(number, count), rest))
 }
 
 /// Reads numbers of `count` bytes each.

@@ -1,17 +1,19 @@
 //! Texts with a head, a length and a checksum.
-ghost use Rattle.std.specs.Prelude.{◌≡◌, ◌∷◌, ◌++◌, [], List, ℕ, length, IfOk, IfSome, OnOk};
+ghost use Rattle.std.specs.Prelude.{◌≡◌, ◌≤◌, ◌∷◌, ◌++◌, [], List, ℕ, length, IfOk, OnOk};
+ghost use Rattle.byteorder.specs.Endian.{little_bytes};
 ghost use Rattle.cluster_parts.specs.Hash.{hash, number_bytes};
 ghost use Rattle.cluster_parts.specs.Seal.{all_sealed, joined_texts, seal_head, sealed};
 ghost use Rattle.cluster_parts.specs.Known.{texts_of};
 
 use crate::hashing::hash_of;
+use byteorder::{ByteOrder, LittleEndian};
 use std::alloc::{AllocError, Global};
 
 /// The name of the format, its number, and the version of the program.
 const HEAD: &[u8] = b"spq-part 2 0.1.0\n";
 
 /// Why a text is not a list of sealed texts.
-#[derive(Clone, Copy, Debug, Drop, PartialEq, Eq)]
+#[derive(Clone, Copy)]
 pub enum SealFault {
     /// A text does not begin with the head: another version of the program wrote it, or another program.
     Version,
@@ -66,45 +68,27 @@ pub(crate) fn push_sealed(out: &mut Vec<u8>, text: &[u8]) -> Result<(), AllocErr
     Ok(())
 }
 
-/// Splits off the first eight bytes, as a number.
-fn first_number(bytes: &[u8]) -> Option<(u64, &[u8])>
-    ensures parts { IfSome result (λ r. bytes.now ≡ number_bytes r.0 ++ r.1.now) }
-{
-    if bytes.len() < 8 {
-        return None;
-    }
-    let (number, rest) = bytes.split_at(8);
-    let number = [
-        number[0], number[1], number[2], number[3], number[4], number[5], number[6], number[7],
-    ];
-    Some((u64::from_le_bytes(number), rest))
-}
-
-/// Splits off the head of a sealed text.
-fn after_head(bytes: &[u8]) -> Option<&[u8]>
-    ensures parts { IfSome result (λ rest. bytes.now ≡ seal_head ++ rest.now) }
-{
-    bytes.strip_prefix(HEAD)
-}
-
 /// Splits off the head of a sealed text, or returns `Version`.
 fn skip_head(bytes: &[u8]) -> Result<&[u8], SealFault>
     ensures parts { IfOk result (λ rest. bytes.now ≡ seal_head ++ rest.now) }
 {
-    match after_head(bytes) {
+    match bytes.strip_prefix(HEAD) {
         Some(rest) => Ok(rest),
         None => Err(SealFault::Version),
     }
 }
 
-/// Splits off the first eight bytes, as a number, or returns `Damaged`.
-fn take_number(bytes: &[u8]) -> Result<(u64, &[u8]), SealFault>
-    ensures parts { IfOk result (λ r. bytes.now ≡ number_bytes r.0 ++ r.1.now) }
+/// Splits off the first `count` bytes, as a number, or returns `Damaged`. The lowest byte is the first.
+pub(crate) fn first_in_bytes(bytes: &[u8], count: usize) -> Result<(u64, &[u8]), SealFault>
+    requires some { 1 ≤ count }
+    requires most { count ≤ 8 }
+    ensures parts { IfOk result (λ r. bytes.now ≡ little_bytes count r.0 ++ r.1.now) }
 {
-    match first_number(bytes) {
-        Some(found) => Ok(found),
-        None => Err(SealFault::Damaged),
+    if bytes.len() < count {
+        return Err(SealFault::Damaged);
     }
+    let (number, rest) = bytes.split_at(count);
+    Ok((LittleEndian::read_uint(number, count), rest))
 }
 
 /// Splits off a text of this length and with this checksum.
@@ -128,8 +112,8 @@ pub(crate) fn first_sealed(bytes: &[u8]) -> Result<(&[u8], &[u8]), SealFault>
     ensures parts { IfOk result (λ r. bytes.now ≡ sealed r.0.now ++ r.1.now) }
 {
     let first = skip_head(bytes)?;
-    let (len, second) = take_number(first)?;
-    let (checksum, third) = take_number(second)?;
+    let (len, second) = first_in_bytes(first, 8)?;
+    let (checksum, third) = first_in_bytes(second, 8)?;
     let (text, after) = checked_text(third, len, checksum)?;
     Ok((text, after))
 }

@@ -5,12 +5,13 @@ use Rattle.cluster_parts.proofs.PartSteps.{same_length, three_texts}
 use Rattle.cluster_parts.proofs.RemainderLaws.{parts_same, unkeyed_same}
 use Rattle.cluster_parts.proofs.key_splits.parts_by_key.Goals as goal
 
-pub unkeyed_part-requires : goal.unkeyed_part-requires
-unkeyed_part-requires c =
+pub part_of-requires : goal.part_of-requires
+part_of-requires c =
     let block = c.args.block.now in
     let read = c.requires.read in record {
       read = read;
       all = same_length read.0 block.texts.texts block.quads.items (reduced_key c.args.partitions (key_of c.args.key.now)) _ read.1 (c.as_slice.ensures.value ∙ c.in_ok-keys.ensures.keys read.0 read.1);
+      some = c.requires.some;
     }
 
 pub push_keyed_parts-requires : goal.push_keyed_parts-requires

@@ -1,5 +1,5 @@
 use Rattle.cluster_parts.proofs.NumberListSteps.{first_number}
-use Rattle.cluster_parts.proofs.number_lists.first_in_bytes.Goals as goal
+use Rattle.cluster_parts.proofs.sealing.first_in_bytes.Goals as goal
 
 pub returns : goal.returns
 returns c = record {
