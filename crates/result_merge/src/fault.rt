@@ -2,7 +2,7 @@
 use std::alloc::AllocError;
 
 /// Why results cannot be merged.
-#[derive(Clone, Copy, Debug, Drop, PartialEq, Eq)]
+#[derive(Clone, Copy)]
 pub enum MergeFault {
     /// The input is not a list of results that `spq select` prints for the same variables.
     Damaged,

@@ -38,23 +38,6 @@ fn member_start<'a>(bytes: &'a [u8], later: bool, prefix: &[u8]) -> Option<&'a [
     }
 }
 
-/// Reads the term of a member, given what follows the beginning of the member.
-fn read_value<'a>(
-    alloc: Global,
-    bytes: &'a [u8],
-    later: bool,
-    prefix: &[u8],
-    value: &'a [u8],
-) -> Result<(Option<Term>, &'a [u8]), MergeFault>
-    requires begun { bytes.now ≡ comma later ++ (prefix.now ++ value.now) }
-    ensures parts { IfOk result
-        (λ r. bytes.now ≡ comma_texts later (begun_member prefix.now r.0) ++ r.1.now) }
-    ensures tagged { IfOk result (λ r. HasTagType r.0) }
-{
-    let (term, end) = read_term(alloc, value)?;
-    Ok((Some(term), end))
-}
-
 /// Reads the member of a column, if the row has it.
 fn read_member<'a>(
     alloc: Global,
@@ -67,7 +50,10 @@ fn read_member<'a>(
     ensures tagged { IfOk result (λ r. HasTagType r.0) }
 {
     match member_start(bytes, later, prefix) {
-        Some(value) => read_value(alloc, bytes, later, prefix, value),
+        Some(value) => {
+            let (term, end) = read_term(alloc, value)?;
+            Ok((Some(term), end))
+        }
         None => Ok((None, bytes)),
     }
 }

@@ -1,7 +1,6 @@
 //! Strings of JSON, as `spq select` prints them (RFC 8259, section 7, with the shortest escapes).
 ghost use Rattle.std.specs.Prelude.{◌≡◌, ◌≤◌, ◌++◌, ℕ, List, length, false, IfOk, IfSome};
 ghost use Rattle.std.specs.List.{list_all};
-ghost use Rattle.serde_json.specs.Data.{string};
 ghost use Rattle.serde_json.specs.View.{view};
 ghost use Rattle.serde_json.specs.Written.{compact_text, has_float};
 ghost use Rattle.result_json.specs.Results.{string_text};
@@ -146,13 +145,6 @@ fn decoded(alloc: Global, bytes: &[u8]) -> Result<Vec<u8>, MergeFault> {
     Err(MergeFault::Damaged)
 }
 
-/// Returns a text as a JSON value.
-fn string_value(alloc: Global, text: &str) -> Result<Value, AllocError>
-    ensures value { IfOk result (λ v. view v ≡ string text.now) }
-{
-    Ok(Value::String(String::from_str(alloc, text)?))
-}
-
 /// Returns what the library prints for a value without floats.
 fn printed(alloc: Global, value: &Value) -> Result<Vec<u8>, AllocError>
     requires no_float { has_float (view value.now) ≡ false }
@@ -165,7 +157,7 @@ fn printed(alloc: Global, value: &Value) -> Result<Vec<u8>, AllocError>
 pub(crate) fn printed_string(alloc: Global, text: &str) -> Result<Vec<u8>, AllocError>
     ensures text { IfOk result (λ printed. printed.items ≡ string_text text.now) }
 {
-    printed(alloc, &string_value(alloc, text)?)
+    printed(alloc, &Value::try_from_str(alloc, text)?)
 }
 
 /// Reads a string with escapes.
