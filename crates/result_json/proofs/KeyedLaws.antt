@@ -6,8 +6,7 @@ use Rattle.std.proofs.lemmas.List.{take-append-drop}
 use Rattle.std.proofs.lemmas.List.Sorted.{IsPermutation-refl, IsPermutation-append}
 use Rattle.row_pieces.specs.Pieces.{piece_of}
 use Rattle.row_pieces.proofs.PieceLaws.{after-first, enough, first-piece, next-piece, no-pieces}
-use Rattle.result_json.specs.declared.presort.Keyed.{Keyed}
-use Rattle.result_json.specs.Keyed.{entries_of, joined_entries}
+use Rattle.result_json.specs.Keyed.{Keyed, entries_of, joined_entries}
 use Rattle.result_json.specs.Ranks.{Entry}
 
 module _ (size : ℕ) where

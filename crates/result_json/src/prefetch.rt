@@ -19,9 +19,9 @@ fn text_ahead<'a>(texts: &'a TextPieces<'_>, rank: u64) -> &'a [u8]
     }
 }
 
-/// Returns whether a text is empty or begins with `{`.
-fn is_object(text: &[u8]) -> bool {
-    text.is_empty() || text[0] == b'{'
+/// Returns whether each text is empty or begins with `{`. This loads all texts into the cache.
+fn are_objects(texts: &[&[u8]]) -> bool {
+    texts.iter().all(|text| text.is_empty() || text[0] == b'{')
 }
 
 /// Looks up the texts of the cells at one place of the rows. A text is empty if the cell is unbound
@@ -39,9 +39,7 @@ fn look_up<'a>(
     for row in rows {
         ahead.push(text_ahead(texts, row.rank(place)))?;
     }
-    // Reading the first byte of each text, `{`, loads all texts into the cache before they are
-    // copied.
-    if !ahead.iter().all(|text| is_object(text)) {
+    if !are_objects(&ahead) {
         ahead.clear();
     }
     Ok(ahead)

@@ -22,12 +22,8 @@ use std::thread::Threads;
 /// The number of terms, at most, in which the shared prefixes are looked for.
 const SAMPLE: usize = 1024;
 
-/// A term with its number, and its key. The derived order compares keys first.
-#[derive(Clone, Copy, PartialEq, Eq, PartialOrd, Ord)]
-struct Keyed<'t> {
-    key: (u128, u128),
-    entry: (&'t Term, u64),
-}
+/// The key of a term, and the term with its number. The order of tuples compares keys first.
+type Keyed<'t> = ((u128, u128), (&'t Term, u64));
 
 /// Returns the kind of a term, as a number in the order of kinds, and its first text. Comparisons
 /// use them first.
@@ -110,8 +106,7 @@ fn with_keys<'t>(
 {
     let mut keyed = Vec::with_capacity(alloc, entries.len())?;
     for entry in entries {
-        let key = key_of(entry.0, prefixes);
-        keyed.push(Keyed { key, entry: *entry })?;
+        keyed.push((key_of(entry.0, prefixes), *entry))?;
     }
     Ok(keyed)
 }
@@ -179,8 +174,8 @@ fn without_keys<'t>(alloc: Global, keyed: &[Keyed<'t>]) -> Result<Vec<(&'t Term,
     ensures entries { IfOk result (λ entries. entries.items ≡ entries_of keyed.now) }
 {
     let mut entries = Vec::with_capacity(alloc, keyed.len())?;
-    for term in keyed {
-        entries.push_reserved(term.entry);
+    for (_key, entry) in keyed {
+        entries.push_reserved(*entry);
     }
     Ok(entries)
 }

@@ -111,13 +111,6 @@ fn head(alloc: Global, names: &[Text], listed: &[usize]) -> Result<Vec<u8>, Allo
     Ok(out)
 }
 
-/// Prints what follows the rows.
-fn tail(alloc: Global) -> Result<Vec<u8>, AllocError>
-    ensures text { IfOk result (λ tail. tail.items ≡ codes "]}}\n") }
-{
-    Vec::from_slice(alloc, b"]}}\n")
-}
-
 /// Returns the blocks with the head before them and the tail after them.
 fn enclosed(
     alloc: Global,
@@ -131,7 +124,7 @@ fn enclosed(
     let mut made = Vec::with_capacity(alloc, blocks.len().saturating_add(2))?;
     made.push_reserved(head(alloc, names, listed)?);
     made.append(blocks)?;
-    made.push_reserved(tail(alloc)?);
+    made.push_reserved(Vec::from_slice(alloc, b"]}}\n")?);
     Ok(made)
 }
 

@@ -5,7 +5,7 @@ use Rattle.result_json.specs.RankedRows.{ranks_of}
 use Rattle.result_json.specs.Texts.{borrowed_texts, IsAhead, IsColumnAhead}
 use Rattle.result_json.proofs.AheadSteps.{first_more, none_ahead}
 use Rattle.result_json.proofs.prefetch.look_up.Goals as goal
-use Rattle.result_json.proofs.prefetch.look_up.Goals.{then-not-all, else-not-all}
+use Rattle.result_json.proofs.prefetch.look_up.Goals.{then-not-are_objects, else-not-are_objects}
 
 pub loop-row-preserved : goal.loop-row-preserved
 loop-row-preserved c =
@@ -33,8 +33,8 @@ returns c =
     let count : length (ranks_of rows) ≡ length rows = length-map rows (λ (r : RankedRow). r.ranks.now) in
     let all : IsColumnAhead terms place (ranks_of rows) (borrowed_texts c.loop-row.ahead.items) = λ k l. c.loop-row.invariant.ahead k (omega arith) in
     record {
-      ahead = elim c.if-not-all.branch [
-        | then-not-all w ↦ subst (λ (items : List (Bor (List ℕ))). IsColumnAhead terms place (ranks_of rows) (borrowed_texts items)) (sym (ap (λ (v : Vec (Bor (List ℕ)) Global). v.items) w.ahead-is ∙ w.clear.ensures.items)) (none_ahead terms place (ranks_of rows))
-        | else-not-all w ↦ subst (λ (v : Vec (Bor (List ℕ)) Global). IsColumnAhead terms place (ranks_of rows) (borrowed_texts v.items)) (sym w.ahead-is) all
+      ahead = elim c.if-not-are_objects.branch [
+        | then-not-are_objects w ↦ subst (λ (items : List (Bor (List ℕ))). IsColumnAhead terms place (ranks_of rows) (borrowed_texts items)) (sym (ap (λ (v : Vec (Bor (List ℕ)) Global). v.items) w.ahead-is ∙ w.clear.ensures.items)) (none_ahead terms place (ranks_of rows))
+        | else-not-are_objects w ↦ subst (λ (v : Vec (Bor (List ℕ)) Global). IsColumnAhead terms place (ranks_of rows) (borrowed_texts v.items)) (sym w.ahead-is) all
       ];
     }
