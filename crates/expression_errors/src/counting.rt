@@ -100,25 +100,28 @@ fn wrong_filter<R: Lookup>(
 ) -> Result<Option<(usize, Cause)>, AllocError> {
     let mut found = None;
     let mut rest = condition;
-    for filter in (1..filters).rev() {
-        let Expr::And { left, right } = rest else {
-            break;
-        };
-        if truth_value(alloc, right, row)?.is_none() {
-            let Some(cause) = condition_cause(alloc, right, row)? else {
+    for number in (0..filters.max(1)).rev() {
+        let (filter, operand, left) = last_filter(rest, number);
+        if truth_value(alloc, operand, row)?.is_none() {
+            let Some(cause) = condition_cause(alloc, operand, row)? else {
                 return Ok(None);
             };
             found = Some(lighter(filter, cause, found));
         }
+        let Some(left) = left else {
+            break;
+        };
         rest = left;
     }
-    if truth_value(alloc, rest, row)?.is_none() {
-        let Some(cause) = condition_cause(alloc, rest, row)? else {
-            return Ok(None);
-        };
-        found = Some(lighter(0, cause, found));
-    }
     Ok(found)
+}
+
+/// Returns the last FILTER of a condition, whose number is `number` if it is not the only one, and the FILTERs before it.
+fn last_filter(condition: &Expr, number: usize) -> (usize, &Expr, Option<&Expr>) {
+    match condition {
+        Expr::And { left, right } if number > 0 => (number, right, Some(left)),
+        _ => (0, condition, None),
+    }
 }
 
 /// Returns the FILTER with a common cause if there is one, or else the first.

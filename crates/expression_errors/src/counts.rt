@@ -173,14 +173,15 @@ impl PartCounter {
         rows
     }
 
-    /// Returns whether one of the first counters has this cause.
-    fn is_among_first(&self, count: usize, cause: &Cause) -> bool {
-        for counter in self.datatypes.iter().take(count) {
-            if counter.cause.get() == Some(cause) {
-                return true;
+    /// Returns the cause of the counter at a place, unless a counter before it has the same one.
+    fn first_cause(&self, place: usize) -> Option<&Cause> {
+        let cause = self.datatypes.get(place)?.cause.get()?;
+        for before in 0..place.min(self.datatypes.len()) {
+            if self.datatypes[before].cause.get() == Some(cause) {
+                return None;
             }
         }
-        false
+        Some(cause)
     }
 }
 
@@ -312,8 +313,8 @@ impl ErrorCounts {
     pub fn new(alloc: Global, mut keys: Vec<Key>) -> Result<ErrorCounts, AllocError> {
         keys.sort()?;
         let mut counters: Vec<Counter> = Vec::new(alloc);
-        for key in keys {
-            add_key(alloc, &mut counters, key)?;
+        for key in &keys {
+            add_key(alloc, &mut counters, *key)?;
         }
         Ok(ErrorCounts { counters })
     }
@@ -412,19 +413,31 @@ fn push_part(tallies: &mut Vec<Tally>, alloc: Global, part: Part<'_>) -> Result<
     )?;
     push_count(tallies, part, Cause::Tagged, loaded(&counts.tagged))?;
     push_count(tallies, part, Cause::Kinds, loaded(&counts.kinds))?;
-    for (place, counter) in counts.datatypes.iter().enumerate() {
-        if let Some(cause) = counter.cause.get() {
-            if !counts.is_among_first(place, cause) {
-                push_count(
-                    tallies,
-                    part,
-                    cause.copy(alloc)?,
-                    counts.datatype_rows(cause),
-                )?;
-            }
-        }
+    for place in 0..counts.datatypes.len() {
+        push_datatype(tallies, alloc, part, place)?;
     }
     Ok(())
+}
+
+/// Appends the count of the cause that has a datatype and its first counter at a place, if there is one.
+fn push_datatype(
+    tallies: &mut Vec<Tally>,
+    alloc: Global,
+    part: Part<'_>,
+    place: usize,
+) -> Result<(), AllocError>
+    requires counted { All (λ tally. 0 < tally.rows) tallies.old.items }
+    ensures counted { OnOk result (All (λ tally. 0 < tally.rows) tallies.new.items) }
+{
+    match part.counts.first_cause(place) {
+        Some(cause) => push_count(
+            tallies,
+            part,
+            cause.copy(alloc)?,
+            part.counts.datatype_rows(cause),
+        ),
+        None => Ok(()),
+    }
 }
 
 /// Appends a count of one part if it is not zero.

@@ -1,5 +1,5 @@
 //! Digests of expressions, by which an evaluation finds the counts of an expression.
-use expression_values::{Comparison, Expr, Function};
+use expression_values::Expr;
 use std::alloc::{AllocError, Global};
 use std::hash::{DefaultHasher, Hash, Hasher};
 
@@ -42,77 +42,53 @@ fn owner_number(owner: Owner) -> (u8, usize) {
 
 /// Adds the root of an expression, with the number of its operands.
 fn add(hasher: &mut DefaultHasher, part: &Expr) {
+    root_number(part).hash(hasher);
+    if let Expr::Constant(term) = part {
+        term.hash(hasher);
+    }
+}
+
+/// Returns the number of the root's kind, and what is known of the root besides its operands and its term.
+fn root_number(part: &Expr) -> (u8, usize) {
     match part {
-        Expr::Variable(variable) => (0u8, *variable).hash(hasher),
-        Expr::Constant(term) => {
-            1u8.hash(hasher);
-            term.hash(hasher);
-        }
-        Expr::Or { .. } => 2u8.hash(hasher),
-        Expr::And { .. } => 3u8.hash(hasher),
-        Expr::Not(_) => 4u8.hash(hasher),
-        Expr::Compare { operator, .. } => (5u8, comparison_number(*operator)).hash(hasher),
-        Expr::In { list, .. } => (6u8, list.len()).hash(hasher),
-        Expr::Call { function, .. } => (7u8, function_number(*function)).hash(hasher),
-        Expr::Bound(variable) => (8u8, *variable).hash(hasher),
-        Expr::SameTerm { .. } => 9u8.hash(hasher),
+        Expr::Variable(variable) => (0, *variable),
+        Expr::Constant(_) => (1, 0),
+        Expr::Or { .. } => (2, 0),
+        Expr::And { .. } => (3, 0),
+        Expr::Not(_) => (4, 0),
+        Expr::Compare { operator, .. } => (5, *operator as usize),
+        Expr::In { list, .. } => (6, list.len()),
+        Expr::Call { function, .. } => (7, *function as usize),
+        Expr::Bound(variable) => (8, *variable),
+        Expr::SameTerm { .. } => (9, 0),
+    }
+}
+
+/// Returns the first two operands of an expression, if it has them, and the further ones.
+fn operands_of(part: &Expr) -> (Option<&Expr>, Option<&Expr>, &[Expr]) {
+    match part {
+        Expr::Variable(_) | Expr::Constant(_) | Expr::Bound(_) => (None, None, &[]),
+        Expr::Or { left, right }
+        | Expr::And { left, right }
+        | Expr::Compare { left, right, .. }
+        | Expr::SameTerm { left, right } => (Some(left), Some(right), &[]),
+        Expr::Not(inner) => (Some(inner), None, &[]),
+        Expr::Call { argument, .. } => (Some(argument), None, &[]),
+        Expr::In { item, list } => (Some(item), None, list),
     }
 }
 
 /// Appends the operands of an expression.
 fn push_operands<'a>(rest: &mut Vec<&'a Expr>, part: &'a Expr) -> Result<(), AllocError> {
-    match part {
-        Expr::Variable(_) | Expr::Constant(_) | Expr::Bound(_) => Ok(()),
-        Expr::Or { left, right }
-        | Expr::And { left, right }
-        | Expr::Compare { left, right, .. }
-        | Expr::SameTerm { left, right } => push_sides(rest, left, right),
-        Expr::Not(inner) => Ok(rest.push(inner)?),
-        Expr::Call { argument, .. } => Ok(rest.push(argument)?),
-        Expr::In { item, list } => push_members(rest, item, list),
+    let (first, second, others) = operands_of(part);
+    if let Some(operand) = first {
+        rest.push(operand)?;
     }
-}
-
-fn push_sides<'a>(
-    rest: &mut Vec<&'a Expr>,
-    left: &'a Expr,
-    right: &'a Expr,
-) -> Result<(), AllocError> {
-    rest.push(left)?;
-    Ok(rest.push(right)?)
-}
-
-/// Appends the item of an IN and the members of its list.
-fn push_members<'a>(
-    rest: &mut Vec<&'a Expr>,
-    item: &'a Expr,
-    list: &'a [Expr],
-) -> Result<(), AllocError> {
-    rest.push(item)?;
-    for member in list {
-        rest.push(member)?;
+    if let Some(operand) = second {
+        rest.push(operand)?;
+    }
+    for operand in others {
+        rest.push(operand)?;
     }
     Ok(())
-}
-
-fn comparison_number(operator: Comparison) -> u8 {
-    match operator {
-        Comparison::Equal => 0,
-        Comparison::NotEqual => 1,
-        Comparison::Less => 2,
-        Comparison::Greater => 3,
-        Comparison::LessOrEqual => 4,
-        Comparison::GreaterOrEqual => 5,
-    }
-}
-
-fn function_number(function: Function) -> u8 {
-    match function {
-        Function::Str => 0,
-        Function::Lang => 1,
-        Function::Datatype => 2,
-        Function::IsIri => 3,
-        Function::IsBlank => 4,
-        Function::IsLiteral => 5,
-    }
 }

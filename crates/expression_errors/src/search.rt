@@ -42,24 +42,28 @@ fn cause_of_chain<R: Lookup>(
     let mut found = None;
     let mut rest = chain;
     for _ in 0..u64::MAX {
-        let Some((left, right)) = sides(rest, false) else {
-            break;
-        };
-        if truth_value(alloc, right, row)?.is_none() {
-            let Some(cause) = search(alloc, right, row, Sense::Positive)? else {
+        let (operand, left) = last_operand(rest, false);
+        if truth_value(alloc, operand, row)?.is_none() {
+            let Some(cause) = search(alloc, operand, row, Sense::Positive)? else {
                 return Ok(None);
             };
             found = Some(lighter(cause, found));
         }
+        let Some(left) = left else {
+            break;
+        };
         rest = left;
     }
-    if truth_value(alloc, rest, row)?.is_none() {
-        let Some(cause) = search(alloc, rest, row, Sense::Positive)? else {
-            return Ok(None);
-        };
-        found = Some(lighter(cause, found));
-    }
     Ok(found)
+}
+
+/// Returns the last operand of a chain of `||`, or of `&&`, and the chain before it if there is one.
+fn last_operand(chain: &Expr, is_or: bool) -> (&Expr, Option<&Expr>) {
+    match chain {
+        Expr::Or { left, right } if is_or => (right, Some(left)),
+        Expr::And { left, right } if !is_or => (right, Some(left)),
+        _ => (chain, None),
+    }
 }
 
 /// Returns the cause of two operands of `&&`: a common one if there is one, or else the first.
@@ -141,40 +145,77 @@ fn cause_of_part<'a, R: Lookup>(
     sense: Sense,
     rest: &mut Vec<Wrong<'a>>,
 ) -> Result<Option<Cause>, AllocError> {
-    if let Some(term) = operand(alloc, part, row)? {
-        return Ok(Some(truth_cause(alloc, &term)?));
+    match operand(alloc, part, row)? {
+        Some(term) => Ok(Some(truth_cause(alloc, &term)?)),
+        None => cause_of_error(alloc, part, row, sense, rest),
     }
+}
+
+/// Returns the cause that is in a part without a value, or adds the operands that are wrong.
+fn cause_of_error<'a, R: Lookup>(
+    alloc: Global,
+    part: &'a Expr,
+    row: &R,
+    sense: Sense,
+    rest: &mut Vec<Wrong<'a>>,
+) -> Result<Option<Cause>, AllocError> {
     match part {
         Expr::Variable(variable) => Ok(Some(Cause::Unbound(*variable))),
-        Expr::Or { .. } => {
-            add_sides(alloc, part, true, row, sense, rest)?;
-            Ok(None)
-        }
-        Expr::And { .. } => {
-            add_sides(alloc, part, false, row, sense, rest)?;
-            Ok(None)
-        }
-        Expr::Not(inner) => {
-            rest.push((inner, opposite(sense)))?;
-            Ok(None)
-        }
+        Expr::Or { .. } => add_sides(alloc, part, true, row, sense, rest),
+        Expr::And { .. } => add_sides(alloc, part, false, row, sense, rest),
+        Expr::Not(inner) => add(rest, inner, opposite(sense)),
         Expr::Compare {
             operator,
             left,
             right,
-        } => {
-            let Some((one, other)) = operands(alloc, left, right, row, rest)? else {
-                return Ok(None);
-            };
-            unexpected_cause(alloc, *operator, &one, &other, sense)
-        }
+        } => cause_of_comparison(alloc, *operator, left, right, row, sense, rest),
         Expr::In { item, list } => cause_of_member(alloc, item, list, row, sense, rest),
         Expr::Call { argument, .. } => cause_of_call(alloc, argument, row, rest),
-        Expr::SameTerm { left, right } => {
-            operands(alloc, left, right, row, rest)?;
-            Ok(None)
-        }
+        Expr::SameTerm { left, right } => add_wrong_side(alloc, left, right, row, rest),
         Expr::Constant(_) | Expr::Bound(_) => Ok(Some(Cause::Call)),
+    }
+}
+
+/// Adds a part. Returns None: the cause is in the part.
+fn add<'a>(
+    rest: &mut Vec<Wrong<'a>>,
+    part: &'a Expr,
+    sense: Sense,
+) -> Result<Option<Cause>, AllocError> {
+    rest.push((part, sense))?;
+    Ok(None)
+}
+
+/// Returns the cause of a comparison's error, or adds the first operand that is an error.
+fn cause_of_comparison<'a, R: Lookup>(
+    alloc: Global,
+    operator: Comparison,
+    left: &'a Expr,
+    right: &'a Expr,
+    row: &R,
+    sense: Sense,
+    rest: &mut Vec<Wrong<'a>>,
+) -> Result<Option<Cause>, AllocError> {
+    match operand(alloc, left, row)? {
+        Some(one) => cause_of_right(alloc, operator, &one, right, row, sense, rest),
+        None => add(rest, left, Sense::Unknown),
+    }
+}
+
+/// Returns the cause of a comparison's error, given the value of its left side, or adds the right side if it is an
+/// error.
+fn cause_of_right<'a, R: Lookup>(
+    alloc: Global,
+    operator: Comparison,
+    left: &Term,
+    right: &'a Expr,
+    row: &R,
+    sense: Sense,
+    rest: &mut Vec<Wrong<'a>>,
+) -> Result<Option<Cause>, AllocError> {
+    match operand(alloc, right, row)? {
+        Some(other) => unexpected_cause(alloc, operator, left, &other, sense),
+        None => add(rest, right, Sense::Unknown),
     }
 }
 
@@ -210,23 +251,20 @@ fn operand<R: Lookup>(alloc: Global, part: &Expr, row: &R) -> Result<Option<Term
     }
 }
 
-/// Returns the values of two operands, or adds the first one that is an error.
-fn operands<'a, R: Lookup>(
+/// Adds the first of two operands that is an error. One of them is.
+fn add_wrong_side<'a, R: Lookup>(
     alloc: Global,
     left: &'a Expr,
     right: &'a Expr,
     row: &R,
     rest: &mut Vec<Wrong<'a>>,
-) -> Result<Option<(Term, Term)>, AllocError> {
-    let Some(one) = operand(alloc, left, row)? else {
-        rest.push((left, Sense::Unknown))?;
-        return Ok(None);
+) -> Result<Option<Cause>, AllocError> {
+    let wrong = if operand(alloc, left, row)?.is_some() {
+        right
+    } else {
+        left
     };
-    let Some(other) = operand(alloc, right, row)? else {
-        rest.push((right, Sense::Unknown))?;
-        return Ok(None);
-    };
-    Ok(Some((one, other)))
+    add(rest, wrong, Sense::Unknown)
 }
 
 fn opposite(sense: Sense) -> Sense {
@@ -237,17 +275,8 @@ fn opposite(sense: Sense) -> Sense {
     }
 }
 
-/// Returns the two sides of `||`, or of `&&`.
-fn sides<'a>(part: &'a Expr, is_or: bool) -> Option<(&'a Expr, &'a Expr)> {
-    match part {
-        Expr::Or { left, right } if is_or => Some((left, right)),
-        Expr::And { left, right } if !is_or => Some((left, right)),
-        _ => None,
-    }
-}
-
 /// Adds the operands of a chain of `||`, or of `&&`, that are errors, the last one first. Each operand
-/// is evaluated once, however long the chain is.
+/// is evaluated once, however long the chain is. Returns None: the cause is in an operand.
 fn add_sides<'a, R: Lookup>(
     alloc: Global,
     chain: &'a Expr,
@@ -255,30 +284,19 @@ fn add_sides<'a, R: Lookup>(
     row: &R,
     sense: Sense,
     rest: &mut Vec<Wrong<'a>>,
-) -> Result<(), AllocError> {
+) -> Result<Option<Cause>, AllocError> {
     let mut part = chain;
     for _ in 0..u64::MAX {
-        let Some((left, right)) = sides(part, is_or) else {
+        let (operand, left) = last_operand(part, is_or);
+        if truth_value(alloc, operand, row)?.is_none() {
+            rest.push((operand, sense))?;
+        }
+        let Some(left) = left else {
             break;
         };
-        add_error(alloc, right, row, sense, rest)?;
         part = left;
     }
-    add_error(alloc, part, row, sense, rest)
-}
-
-/// Adds an operand of `||` or `&&` if it is an error.
-fn add_error<'a, R: Lookup>(
-    alloc: Global,
-    part: &'a Expr,
-    row: &R,
-    sense: Sense,
-    rest: &mut Vec<Wrong<'a>>,
-) -> Result<(), AllocError> {
-    if truth_value(alloc, part, row)?.is_none() {
-        rest.push((part, sense))?;
-    }
-    Ok(())
+    Ok(None)
 }
 
 fn cause_of_call<'a, R: Lookup>(
@@ -287,11 +305,10 @@ fn cause_of_call<'a, R: Lookup>(
     row: &R,
     rest: &mut Vec<Wrong<'a>>,
 ) -> Result<Option<Cause>, AllocError> {
-    if operand(alloc, argument, row)?.is_some() {
-        return Ok(Some(Cause::Call));
+    match operand(alloc, argument, row)? {
+        Some(_) => Ok(Some(Cause::Call)),
+        None => add(rest, argument, Sense::Unknown),
     }
-    rest.push((argument, Sense::Unknown))?;
-    Ok(None)
 }
 
 /// Returns the cause of the first member of IN whose comparison with the item has one, or adds the item
@@ -304,12 +321,24 @@ fn cause_of_member<'a, R: Lookup>(
     sense: Sense,
     rest: &mut Vec<Wrong<'a>>,
 ) -> Result<Option<Cause>, AllocError> {
-    let Some(one) = operand(alloc, item, row)? else {
-        rest.push((item, Sense::Unknown))?;
-        return Ok(None);
-    };
+    match operand(alloc, item, row)? {
+        Some(one) => cause_in_list(alloc, &one, list, row, sense, rest),
+        None => add(rest, item, Sense::Unknown),
+    }
+}
+
+/// Returns the cause of the first member of IN whose comparison with the item has one, or adds the members that are
+/// errors.
+fn cause_in_list<'a, R: Lookup>(
+    alloc: Global,
+    item: &Term,
+    list: &'a [Expr],
+    row: &R,
+    sense: Sense,
+    rest: &mut Vec<Wrong<'a>>,
+) -> Result<Option<Cause>, AllocError> {
     for member in list {
-        let found = cause_with_member(alloc, &one, member, row, sense, rest)?;
+        let found = cause_with_member(alloc, item, member, row, sense, rest)?;
         if found.is_some() {
             return Ok(found);
         }
@@ -326,12 +355,14 @@ fn cause_with_member<'a, R: Lookup>(
     sense: Sense,
     rest: &mut Vec<Wrong<'a>>,
 ) -> Result<Option<Cause>, AllocError> {
-    let Some(other) = operand(alloc, member, row)? else {
-        rest.push((member, Sense::Unknown))?;
-        return Ok(None);
-    };
-    if compare(Comparison::Equal, item, &other).is_some() {
-        return Ok(None);
+    match operand(alloc, member, row)? {
+        Some(other) => {
+            if compare(Comparison::Equal, item, &other).is_some() {
+                Ok(None)
+            } else {
+                unexpected_cause(alloc, Comparison::Equal, item, &other, sense)
+            }
+        }
+        None => add(rest, member, Sense::Unknown),
     }
-    unexpected_cause(alloc, Comparison::Equal, item, &other, sense)
 }
