@@ -259,22 +259,26 @@ in_text line text n t l u = elim (cases_lt (length text) n) [
   | inr short ↦ short
 ]
 
-no_longer : (line text : List ℕ) (w : Walk) (n : ℕ) → IsLongestText line text → IsWalk text w → w.offset < n → n ≤ length line → IsUtf8 (take n line) → IsLinePrefix (take n line) → ⊥
-no_longer line text w n t k o l u h =
-    let short : n ≤ length text = in_text line text n t l u in
-    let same : take n line ≡ take n text = ap (take n) t.parts ∙ take-append-le n text t.rest short in
-    let P : List ℕ = take n line in
-    let ps : List ℕ = chars P in
-    let tail : List ℕ = chars (drop n text) in
-    let whole : text ≡ P ++ drop n text = sym (take-append-drop n text) ∙ ap (λ (y : List ℕ). y ++ drop n text) (sym same) in
-    let both : k.front ++ k.back ≡ ps ++ tail = sym k.parts ∙ ap chars whole ∙ chars-append P (drop n text) u in
-    let size : length P ≡ n = length-take-le n line l in
-    let more = longer k.front k.back ps tail both (omega (arith, k.offset, ap length (encodes-chars P u), size, o)) in
+-- the characters of a text, split in two ways
+both_parts : (text front back P rest : List ℕ) → chars text ≡ front ++ back → text ≡ P ++ rest → IsUtf8 P → front ++ back ≡ chars P ++ chars rest
+both_parts text front back P rest parts whole u = sym parts ∙ ap chars whole ∙ chars-append P rest u
+
+-- no line begins with more of a text than the walk has read
+no_longer_front : (P rest text : List ℕ) (w : Walk) → IsWalk text w → text ≡ P ++ rest → IsUtf8 P → w.offset < length P → IsLinePrefix P → ⊥
+no_longer_front P rest text w k whole u o h =
+    let more = longer k.front k.back (chars P) (chars rest) (both_parts text k.front k.back P rest k.parts whole u)
+    (omega (arith, k.offset, ap length (encodes-chars P u), o)) in
     let c = continued P u h in
-    let moved : ps ++ c.rest ≡ k.front ++ more.c ∷ (more.others ++ c.rest) = ap (λ (y : List ℕ). y ++ c.rest) more.longer ∙ append_assoc k.front (more.c ∷ more.others) c.rest in
-    k.stops more.c (more.others ++ tail) (more.others ++ c.rest) more.next
+    let moved : chars P ++ c.rest ≡ k.front ++ more.c ∷ (more.others ++ c.rest) = ap (λ (y : List ℕ). y ++ c.rest) more.longer ∙ append_assoc k.front (more.c ∷ more.others) c.rest in
+    k.stops more.c (more.others ++ chars rest) (more.others ++ c.rest) more.next
     (plain_rest k.front (more.c ∷ (more.others ++ c.rest)) (subst (NonePass is_line_break) moved c.plain))
     (k.after.forth (more.c ∷ (more.others ++ c.rest)) (subst Starts moved c.starts))
+
+no_longer : (line text : List ℕ) (w : Walk) (n : ℕ) → IsLongestText line text → IsWalk text w → w.offset < n → n ≤ length line → IsUtf8 (take n line) → IsLinePrefix (take n line) → ⊥
+no_longer line text w n t k o l u h =
+    let same : take n line ≡ take n text = ap (take n) t.parts ∙ take-append-le n text t.rest (in_text line text n t l u) in
+    let whole : text ≡ take n line ++ drop n text = sym (take-append-drop n text) ∙ ap (λ (y : List ℕ). y ++ drop n text) (sym same) in
+    no_longer_front (take n line) (drop n text) text w k whole u (omega (arith, length-take-le n line l, o)) h
 
 pub walk_place : (line text : List ℕ) (w : Walk) → IsLongestText line text → IsWalk text w → IsPlace line w.offset
 walk_place line text w t k =
