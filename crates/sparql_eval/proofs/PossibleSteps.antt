@@ -1,6 +1,6 @@
 -- Trees that are joined with rows: only the solutions that are compatible with one of the rows are
 -- needed, and of GRAPH with a variable only the graphs that the rows name.
-use Rattle.std.proofs.Common.{◌≡◌, ℕ, zero, suc, ◌+◌, ◌<◌, Bool, true, false, cond, ◌&&◌, ◌||◌, List, [], ◌∷◌, ◌++◌, length, map, filter, flat_map, get_or, slice_get, take, nat_eq, Contains, Option, None, Some, is_some, option_map, Result, IfOk, refl, sym, ap, ◌∙◌, subst, arith}
+use Rattle.std.proofs.Common.{◌≡◌, ◌⊎◌, ⊎_elim, ℕ, zero, suc, ◌+◌, ◌<◌, Bool, true, false, cond, ◌&&◌, ◌||◌, List, [], ◌∷◌, ◌++◌, length, map, filter, flat_map, get_or, slice_get, take, nat_eq, Contains, Option, None, Some, is_some, option_map, Result, IfOk, refl, sym, ap, ◌∙◌, subst, arith}
 use Rattle.std.specs.Cmp.{both_ways}
 use Rattle.std.specs.List.{AllByRecursion, IsDistinct, dedup, list_any}
 use Rattle.std.specs.Option.{option_eq}
@@ -15,6 +15,7 @@ use Rattle.rdf_core.proofs.TermLaws.{term_eq, term_decides}
 use Rattle.algebra_model.specs.Algebra.{each_graph}
 use Rattle.algebra_model.specs.Bag.{IsSameBag}
 use Rattle.algebra_model.specs.Eval.{eval, named}
+use Rattle.algebra_model.specs.Expression.{holds}
 use Rattle.algebra_model.specs.Laws.{KeepsBagsOfTwo}
 use Rattle.algebra_model.specs.Operators.{join, left_join, minus}
 use Rattle.algebra_model.specs.Renaming.{Each, read_row}
@@ -26,15 +27,20 @@ use Rattle.dict_core.specs.NumQuad.{AreBelow, quads_at}
 use Rattle.dict_core.specs.declared.num_quad.NumQuad.{NumQuad}
 use Rattle.row_core.specs.RowList.{RowList}
 use Rattle.row_core.proofs.TurnLaws.{take_more_get}
+use Rattle.expression_values.specs.ExpressionOf.{expression_of}
 use Rattle.sparql_algebra.specs.AlgebraOf.{algebra_of}
 use Rattle.sparql_algebra.specs.declared.operator.Operator.{Operator}
 use Rattle.sparql_eval.specs.Evaluated.{AreKnown, IsEvaluated, solutions_of}
 use Rattle.sparql_eval.specs.Fitting.{IsEvaluatedWhere, fits}
+use Rattle.sparql_eval.specs.Pairings.{paired}
 use Rattle.sparql_eval.specs.Possible.{AreNumbersAt, ArePossible, ArePossibleIn, bind_all, is_named, may_join, meets_some}
 use Rattle.sparql_eval.specs.TreeSolutions.{AreGraphs, graph_solutions, solutions_in}
 use Rattle.sparql_eval.specs.declared.equalities.Equality.{Equality}
+use Rattle.sparql_eval.specs.declared.two_inputs.Pairing.{Pairing}
+use Rattle.sparql_eval.specs.declared.two_inputs.Pairing.TheVariants.{Join, LeftJoin, Minus}
 use Rattle.sparql_eval.proofs.ComputedSteps.{all_graphs}
-use Rattle.sparql_eval.proofs.FittingSteps.{filter-mapped, fits_left, fits_right, joined-where}
+use Rattle.sparql_eval.proofs.EvaluateSteps.{join_keeps, left_join_keeps, minus_keeps}
+use Rattle.sparql_eval.proofs.FittingSteps.{filter-mapped, fits_left, fits_right, joined-where, where_any_ok}
 use Rattle.sparql_eval.proofs.GraphSteps.{graph_below}
 use Rattle.sparql_eval.proofs.NamedSteps.{all_named}
 use Rattle.sparql_eval.proofs.PossibleLaws.{covered, join_tested, left_join_tested, meets_left, meets_right, minus_tested, named_suffice}
@@ -138,14 +144,24 @@ after_possible t0 t1 w r F keeps drops B left right known h k =
       bag = IsPermutation-trans (solutions_of x.1 x.0) (F M R) (F L B) e.bag (subst (λ (N : List (Solution Term)). IsSameBag (F N R) (F L B)) (sym same) met);
     }) k
 
-pub join_drops : (L B : List (Solution Term)) → join term_eq L (filter (meets_some term_eq L) B) ≡ join term_eq L B
+join_drops : (L B : List (Solution Term)) → join term_eq L (filter (meets_some term_eq L) B) ≡ join term_eq L B
 join_drops L B = join_tested term_eq (meets_some term_eq L) L B (covered term_eq L)
 
-pub left_join_drops : (keeps : Solution Term → Bool) (L B : List (Solution Term)) → left_join term_eq keeps L (filter (meets_some term_eq L) B) ≡ left_join term_eq keeps L B
+left_join_drops : (keeps : Solution Term → Bool) (L B : List (Solution Term)) → left_join term_eq keeps L (filter (meets_some term_eq L) B) ≡ left_join term_eq keeps L B
 left_join_drops keeps L B = left_join_tested term_eq (meets_some term_eq L) keeps L B (covered term_eq L)
 
-pub minus_drops : (L B : List (Solution Term)) → minus term_eq L (filter (meets_some term_eq L) B) ≡ minus term_eq L B
+minus_drops : (L B : List (Solution Term)) → minus term_eq L (filter (meets_some term_eq L) B) ≡ minus term_eq L B
 minus_drops L B = minus_tested term_eq (meets_some term_eq L) L B (covered term_eq L)
+
+pub paired_keeps : (p : Pairing) → KeepsBagsOfTwo (paired p)
+paired_keeps Join = join_keeps
+paired_keeps (LeftJoin condition) = left_join_keeps (holds (expression_of condition.now))
+paired_keeps Minus = minus_keeps
+
+pub paired_drops : (p : Pairing) (L B : List (Solution Term)) → paired p L (filter (meets_some term_eq L) B) ≡ paired p L B
+paired_drops Join L B = join_drops L B
+paired_drops (LeftJoin condition) L B = left_join_drops (holds (expression_of condition.now)) L B
+paired_drops Minus L B = minus_drops L B
 
 module _ (pairs : List Equality) where
   -- the right input of a join, evaluated after the left one, whose rows are unchanged
@@ -175,7 +191,7 @@ module _ (pairs : List Equality) where
       }) k
 
   -- a join that is then joined with other rows: its right input after the left one
-  pub next_right : {E : Type 0} (t0 t1 : List Term) (w : ℕ) (r : Result (RowList × List Term) E) (O B : List (Solution Term)) (left right : RowList) → AreKnown t0 left
+  next_right : {E : Type 0} (t0 t1 : List Term) (w : ℕ) (r : Result (RowList × List Term) E) (O B : List (Solution Term)) (left right : RowList) → AreKnown t0 left
       → IsEvaluatedWhere t0 w (may_join pairs O) B right t1
       → IfOk r (λ x. IsEvaluatedWhere t1 left.width (fits pairs) (join term_eq (solutions_of t1 left) (solutions_of t1 right)) x.0 x.1)
       → IfOk r (λ x. IsEvaluatedWhere t0 left.width (may_join pairs O) (join term_eq (solutions_of t0 left) B) x.0 x.1)
@@ -212,6 +228,25 @@ module _ (pairs : List Equality) where
             (subst (λ (W : List (Solution Term)). IsSameBag (filter q (join term_eq S B')) (filter q W)) (sym of)
             (joined-where q (may_join_left pairs O) (may_join_right pairs O) A S B B' h.bag (same_bag (filter q B') (filter q B) (ap (filter q) is))));
       }) k
+
+-- the rows with which the right input of such a join is joined: those of the left input, or the other ones
+module _ (t : List Term) (left others next : RowList) (o : (next ≡ left) ⊎ (next ≡ others)) (known : AreKnown t left) where
+  pub next_known : AreKnown t others → AreKnown t next
+  next_known k = ⊎_elim (λ (e : next ≡ left). subst (AreKnown t) (sym e) known) (λ (e : next ≡ others). subst (AreKnown t) (sym e) k) o
+
+  pub next_either : {E : Type 0} (t1 : List Term) (w : ℕ) (r : Result (RowList × List Term) E) (B : List (Solution Term)) (right : RowList)
+      → IsEvaluatedWhere t w (may_join [] (solutions_of t next)) B right t1
+      → IfOk r (λ x. IsEvaluated t1 left.width (join term_eq (solutions_of t1 left) (solutions_of t1 right)) x.0 x.1)
+      → IfOk r (λ x. IsEvaluatedWhere t left.width (may_join [] (solutions_of t others)) (join term_eq (solutions_of t left) B) x.0 x.1)
+  next_either t1 w r B right h k =
+      let O = solutions_of t others in
+      let J = join term_eq (solutions_of t left) B in
+      ⊎_elim
+      (λ (e : next ≡ left). fits_may_join t left.width r [] O J J refl
+      (where_any_ok [] t left.width r J (after_possible t t1 w r (join term_eq) join_keeps join_drops B left right known (subst (λ (n : RowList). IsEvaluatedWhere t w (may_join [] (solutions_of t n)) B right t1) e h) k)))
+      (λ (e : next ≡ others). next_right [] t t1 w r O B left right known (subst (λ (n : RowList). IsEvaluatedWhere t w (may_join [] (solutions_of t n)) B right t1) e h)
+      (where_any_ok [] t1 left.width r (join term_eq (solutions_of t1 left) (solutions_of t1 right)) k))
+      o
 
 -- ---- the graphs that rows name
 

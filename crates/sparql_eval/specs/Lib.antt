@@ -11,3 +11,4 @@ pub mod KeyedRows
 pub mod Fitting
 pub mod Mentions
 pub mod Possible
+pub mod Pairings

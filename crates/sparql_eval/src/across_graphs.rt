@@ -1,7 +1,7 @@
 //! Operators below GRAPH with a variable, above a part that does not depend on the active graph. They are
 //! applied once to the rows of all graphs.
-ghost use Rattle.std.specs.Prelude.{◌≡◌, ◌<◌, false, true, length, nat_eq, IfErr, IfOk};
-ghost use Rattle.algebra_model.specs.Algebra.{Extend, Filter, is_within};
+ghost use Rattle.std.specs.Prelude.{◌≡◌, ◌<◌, false, true, length, IfErr, IfOk};
+ghost use Rattle.algebra_model.specs.Algebra.{Filter, is_within};
 ghost use Rattle.dict_core.specs.NumQuad.{AreBelow};
 ghost use Rattle.row_pieces.specs.How.{HasOneWorker};
 ghost use Rattle.row_pieces.specs.declared.fault.EvalFault.TheVariants.{Memory};
@@ -20,6 +20,7 @@ use crate::forms::is_partly_closed;
 use crate::joins::join_of;
 use crate::mentions::may_mention;
 use crate::separated::Tested;
+use crate::two_inputs::Pairing;
 use crate::unions::union_of;
 use dict_core::Dict;
 use expression_errors::Owner;
@@ -66,13 +67,13 @@ impl<'c, 'i, 'e, R: Threads + Wait, G: Gate + Sync> Evaluator<'c, 'i, 'e, R, G> 
         {
             if is_apart(right, self.width, variable) && !may_mention(condition, variable) {
                 let (rows, dict) = self.solve_each(dict, variable, graphs, left)?;
-                return self.solve_left_join(dict, None, rows, right, condition);
+                return self.solve_paired(dict, None, rows, right, Pairing::LeftJoin(condition));
             }
         }
         if let Operator::Minus { left, right } = inner {
             if is_apart(right, self.width, variable) {
                 let (rows, dict) = self.solve_each(dict, variable, graphs, left)?;
-                return self.solve_minus(dict, None, rows, right);
+                return self.solve_paired(dict, None, rows, right, Pairing::Minus);
             }
         }
         if let Operator::Join { left, right } = inner {
@@ -123,7 +124,8 @@ impl<'c, 'i, 'e, R: Threads + Wait, G: Gate + Sync> Evaluator<'c, 'i, 'e, R, G> 
         {
             let moves = is_partly_closed(below) && *bound != variable;
             if moves && !may_mention(expression, variable) {
-                return self.solve_each_extend(dict, variable, graphs, below, *bound, expression);
+                let (rows, dict) = self.solve_each(dict, variable, graphs, below)?;
+                return self.extend(dict, rows, *bound, expression);
             }
         }
         self.solve_in_turn(dict, variable, graphs, inner)
@@ -224,33 +226,5 @@ impl<'c, 'i, 'e, R: Threads + Wait, G: Gate + Sync> Evaluator<'c, 'i, 'e, R, G> 
             }
         }
         self.solve_each(dict, variable, graphs, inner)
-    }
-
-    /// Extends the rows of a tree in each of some graphs.
-    #[cycle(solve)]
-    fn solve_each_extend(
-        &self,
-        dict: Dict,
-        variable: usize,
-        graphs: &[u64],
-        inner: &Operator,
-        bound: usize,
-        expression: &Expr,
-    ) -> Result<(Rows, Dict), EvalFault>
-        requires index { AreBelow (length dict) self.now.index.now }
-        requires variable { variable < self.now.width }
-        requires graphs { AreGraphs dict self.now.index.now graphs.now }
-        requires bound { bound < self.now.width }
-        requires another { nat_eq bound variable ≡ false }
-        requires not_mentioned { mentions (expression_of expression.now) variable ≡ false }
-        requires within { is_within self.now.width (algebra_of inner.now) ≡ true }
-        ensures evaluated { IfOk result (λ r. IsEvaluatedIn dict self.now.index.now
-            self.now.width variable graphs.now (Extend bound (expression_of expression.now) (algebra_of inner.now)) r.0 r.1) }
-        ensures needed { IfOk result (λ r. TakesIn dict self.now.index.now
-            self.now.width variable (Extend bound (expression_of expression.now) (algebra_of inner.now)) r.1) }
-        ensures one_worker { HasOneWorker self.now.context.how.now → IfErr result (λ fault. fault ≡ Memory) }
-    {
-        let (rows, dict) = self.solve_each(dict, variable, graphs, inner)?;
-        self.extend(dict, rows, bound, expression)
     }
 }

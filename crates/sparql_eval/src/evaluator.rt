@@ -23,6 +23,7 @@ use crate::extensions::extend_with;
 use crate::patterns::pattern_with;
 use crate::projections::project_of;
 use crate::tables::table;
+use crate::two_inputs::Pairing;
 use crate::unions::union_of;
 use dict_core::Dict;
 use expression_errors::{ErrorCounts, Owner, Place};
@@ -122,7 +123,7 @@ impl<'c, 'i, 'e, R: Threads + Wait, G: Gate + Sync> Evaluator<'c, 'i, 'e, R, G> 
             }
             Operator::Join { left, right } => {
                 let (left, dict) = self.solve(dict, active, left)?;
-                self.solve_join(dict, active, left, right)
+                self.solve_paired(dict, active, left, right, Pairing::Join)
             }
             Operator::LeftJoin {
                 left,
@@ -130,7 +131,7 @@ impl<'c, 'i, 'e, R: Threads + Wait, G: Gate + Sync> Evaluator<'c, 'i, 'e, R, G> 
                 condition,
             } => {
                 let (left, dict) = self.solve(dict, active, left)?;
-                self.solve_left_join(dict, active, left, right, condition)
+                self.solve_paired(dict, active, left, right, Pairing::LeftJoin(condition))
             }
             Operator::Union { left, right } => {
                 let (left, dict) = self.solve(dict, active, left)?;
@@ -139,7 +140,7 @@ impl<'c, 'i, 'e, R: Threads + Wait, G: Gate + Sync> Evaluator<'c, 'i, 'e, R, G> 
             }
             Operator::Minus { left, right } => {
                 let (left, dict) = self.solve(dict, active, left)?;
-                self.solve_minus(dict, active, left, right)
+                self.solve_paired(dict, active, left, right, Pairing::Minus)
             }
             Operator::Graph { name, inner } => self.solve_graph(dict, name, inner),
             Operator::Filter { condition, inner } => {

@@ -14,6 +14,7 @@ ghost use Rattle.sparql_eval.specs.TreeSolutions.{AreGraphs, IsEvaluatedIn, Take
 use crate::closed::is_closed;
 use crate::evaluator::Evaluator;
 use crate::graphs::{add_graph, graph_number, name_rows};
+use crate::two_inputs::Pairing;
 use dict_core::Dict;
 use piece_pool::Gate;
 use row_core::Rows;
@@ -82,16 +83,16 @@ impl<'c, 'i, 'e, R: Threads + Wait, G: Gate + Sync> Evaluator<'c, 'i, 'e, R, G> 
         }
         if is_closed(inner) {
             let names = name_rows(self.context.alloc, self.width, variable, graphs)?;
-            return self.solve_join(dict, None, names, inner);
+            return self.solve_paired(dict, None, names, inner, Pairing::Join);
         }
         if let Operator::Join { left, right } = inner {
             if is_closed(right) {
                 let (rows, dict) = self.solve_each(dict, variable, graphs, left)?;
-                return self.solve_join(dict, None, rows, right);
+                return self.solve_paired(dict, None, rows, right, Pairing::Join);
             }
             if is_closed(left) {
                 let (others, dict) = self.solve_each(dict, variable, graphs, right)?;
-                return self.solve_join(dict, None, others, left);
+                return self.solve_paired(dict, None, others, left, Pairing::Join);
             }
         }
         self.solve_outward(dict, variable, graphs, inner)

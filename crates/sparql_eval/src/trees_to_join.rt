@@ -1,9 +1,8 @@
 //! Trees that are joined with rows. Of GRAPH with a variable, only the graphs are needed that the rows name.
-ghost use Rattle.std.specs.Prelude.{◌≡◌, ◌<◌, [], true, length, IfErr, IfOk};
+ghost use Rattle.std.specs.Prelude.{◌≡◌, ◌⊎◌, ◌<◌, [], true, length, IfErr, IfOk};
 ghost use Rattle.std.specs.Option.{ForSome};
 ghost use Rattle.rdf_core.specs.Equality.{term_eq};
 ghost use Rattle.algebra_model.specs.Algebra.{is_name_below, is_within};
-ghost use Rattle.algebra_model.specs.Operators.{join};
 ghost use Rattle.dict_core.specs.NumQuad.{AreBelow};
 ghost use Rattle.row_pieces.specs.How.{HasOneWorker};
 ghost use Rattle.row_pieces.specs.declared.fault.EvalFault.TheVariants.{Memory};
@@ -52,43 +51,12 @@ impl<'c, 'i, 'e, R: Threads + Wait, G: Gate + Sync> Evaluator<'c, 'i, 'e, R, G> 
             Operator::Graph { name, inner } => self.solve_possible(dict, others, name, inner),
             Operator::Join { left, right } => {
                 let (rows, dict) = self.solve_to_join(dict, active, others, left)?;
-                if is_empty_pattern(left) {
-                    self.solve_join_next(dict, active, rows, others, right)
-                } else {
-                    self.solve_join(dict, active, rows, right)
-                }
+                let next = rows_to_join(left, &rows, others);
+                let (right, dict) = self.solve_to_join(dict, active, next, right)?;
+                join_of(&self.context, self.state, dict, rows, right)
             }
             _ => self.solve(dict, active, tree),
         }
-    }
-
-    /// Joins rows with the solutions of a tree, which are then joined with other rows. Only the pairs
-    /// are needed that are compatible with one of the other rows.
-    #[cycle(solve)]
-    fn solve_join_next(
-        &self,
-        dict: Dict,
-        active: Option<u64>,
-        left: Rows,
-        others: &Rows,
-        right: &Operator,
-    ) -> Result<(Rows, Dict), EvalFault>
-        requires index { AreBelow (length dict) self.now.index.now }
-        requires active { ForSome active (λ g. g < length dict) }
-        requires same_width { left.width ≡ self.now.width }
-        requires known_left { AreKnown dict left }
-        requires known_others { AreKnown dict others.now }
-        requires within { is_within self.now.width (algebra_of right.now) ≡ true }
-        ensures evaluated { IfOk result (λ r. IsEvaluatedWhere dict left.width
-            (may_join [] (solutions_of dict others.now))
-            (join term_eq (solutions_of dict left)
-            (tree_solutions dict self.now.index.now self.now.width active right.now)) r.0 r.1) }
-        ensures needed { IfOk result (λ r. TakesOnly (Needed dict self.now.index.now self.now.width active
-            (algebra_of right.now)) dict r.1) }
-        ensures one_worker { HasOneWorker self.now.context.how.now → IfErr result (λ fault. fault ≡ Memory) }
-    {
-        let (right, dict) = self.solve_to_join(dict, active, others, right)?;
-        join_of(&self.context, self.state, dict, left, right)
     }
 
     /// Evaluates a GRAPH that is then joined with these rows. If its name is a variable that all rows
@@ -124,4 +92,12 @@ impl<'c, 'i, 'e, R: Threads + Wait, G: Gate + Sync> Evaluator<'c, 'i, 'e, R, G> 
         }
         self.solve_graph(dict, name, inner)
     }
+}
+
+/// Returns the rows with which the right side of a join is joined next: those of the left side, or the other
+/// rows if the left side is the empty pattern, which binds nothing.
+fn rows_to_join<'r>(left: &Operator, rows: &'r Rows, others: &'r Rows) -> &'r Rows
+    ensures either { (result.now ≡ rows.now) ⊎ (result.now ≡ others.now) }
+{
+    if is_empty_pattern(left) { others } else { rows }
 }

@@ -2,17 +2,14 @@
 //! is evaluated here.
 ghost use Rattle.std.specs.Prelude.{◌≡◌, ◌<◌, true, length, IfErr, IfOk};
 ghost use Rattle.std.specs.Option.{ForSome};
-ghost use Rattle.rdf_core.specs.Equality.{term_eq};
 ghost use Rattle.algebra_model.specs.Algebra.{is_within};
-ghost use Rattle.algebra_model.specs.Expression.{holds};
-ghost use Rattle.algebra_model.specs.Operators.{join, left_join, minus};
 ghost use Rattle.dict_core.specs.NumQuad.{AreBelow};
 ghost use Rattle.row_pieces.specs.How.{HasOneWorker};
 ghost use Rattle.row_pieces.specs.declared.fault.EvalFault.TheVariants.{Memory};
-ghost use Rattle.expression_values.specs.ExpressionOf.{expression_of};
 ghost use Rattle.sparql_algebra.specs.AlgebraOf.{algebra_of};
 ghost use Rattle.sparql_eval.specs.Computed.{TakesOnly};
 ghost use Rattle.sparql_eval.specs.Evaluated.{AreKnown, IsEvaluated, solutions_of};
+ghost use Rattle.sparql_eval.specs.Pairings.{paired};
 ghost use Rattle.sparql_eval.specs.TreeSolutions.{Needed, tree_solutions};
 
 use crate::evaluator::Evaluator;
@@ -26,15 +23,25 @@ use sparql_algebra::{Expr, Operator};
 use std::sync::Wait;
 use std::thread::Threads;
 
+/// How the solutions of two inputs are combined.
+#[derive(Clone, Copy)]
+pub(crate) enum Pairing<'a> {
+    Join,
+    LeftJoin(&'a Expr),
+    Minus,
+}
+
 impl<'c, 'i, 'e, R: Threads + Wait, G: Gate + Sync> Evaluator<'c, 'i, 'e, R, G> {
-    /// Joins rows with the solutions of a tree.
+    /// Combines rows with the solutions of a tree. Of these, only those are needed that are compatible with
+    /// one of the rows.
     #[cycle(solve)]
-    pub(crate) fn solve_join(
+    pub(crate) fn solve_paired(
         &self,
         dict: Dict,
         active: Option<u64>,
         left: Rows,
         right: &Operator,
+        pairing: Pairing<'_>,
     ) -> Result<(Rows, Dict), EvalFault>
         requires index { AreBelow (length dict) self.now.index.now }
         requires active { ForSome active (λ g. g < length dict) }
@@ -42,73 +49,44 @@ impl<'c, 'i, 'e, R: Threads + Wait, G: Gate + Sync> Evaluator<'c, 'i, 'e, R, G> 
         requires known_left { AreKnown dict left }
         requires within { is_within self.now.width (algebra_of right.now) ≡ true }
         ensures evaluated { IfOk result (λ r. IsEvaluated dict left.width
-            (join term_eq (solutions_of dict left)
+            (paired pairing.entry (solutions_of dict left)
             (tree_solutions dict self.now.index.now self.now.width active right.now)) r.0 r.1) }
         ensures needed { IfOk result (λ r. TakesOnly (Needed dict self.now.index.now self.now.width active
             (algebra_of right.now)) dict r.1) }
         ensures one_worker { HasOneWorker self.now.context.how.now → IfErr result (λ fault. fault ≡ Memory) }
     {
         let (right, dict) = self.solve_to_join(dict, active, &left, right)?;
-        join_of(&self.context, self.state, dict, left, right)
+        self.pair(dict, left, right, pairing)
     }
 
-    /// Applies LeftJoin to rows and the solutions of a tree.
-    #[cycle(solve)]
-    pub(crate) fn solve_left_join(
+    /// Combines the rows of two inputs. The dictionary is returned unchanged.
+    fn pair(
         &self,
         dict: Dict,
-        active: Option<u64>,
         left: Rows,
-        right: &Operator,
-        condition: &Expr,
+        right: Rows,
+        pairing: Pairing<'_>,
     ) -> Result<(Rows, Dict), EvalFault>
-        requires index { AreBelow (length dict) self.now.index.now }
-        requires active { ForSome active (λ g. g < length dict) }
-        requires same_width { left.width ≡ self.now.width }
+        requires same_width { left.width ≡ right.width }
         requires known_left { AreKnown dict left }
-        requires within { is_within self.now.width (algebra_of right.now) ≡ true }
+        requires known_right { AreKnown dict right }
         ensures evaluated { IfOk result (λ r. IsEvaluated dict left.width
-            (left_join term_eq (holds (expression_of condition.now)) (solutions_of dict left)
-            (tree_solutions dict self.now.index.now self.now.width active right.now)) r.0 r.1) }
-        ensures needed { IfOk result (λ r. TakesOnly (Needed dict self.now.index.now self.now.width active
-            (algebra_of right.now)) dict r.1) }
+            (paired pairing.entry (solutions_of dict left) (solutions_of dict right)) r.0 r.1) }
+        ensures same_dict { IfOk result (λ r. r.1 ≡ dict) }
         ensures one_worker { HasOneWorker self.now.context.how.now → IfErr result (λ fault. fault ≡ Memory) }
     {
-        let (right, dict) = self.solve_to_join(dict, active, &left, right)?;
-        let place = self.place(Owner::LeftJoin, condition);
-        left_join_with(
-            &self.context,
-            self.state,
-            dict,
-            &left,
-            &right,
-            condition,
-            place,
-        )
-    }
-
-    /// Applies Minus to rows and the solutions of a tree.
-    #[cycle(solve)]
-    pub(crate) fn solve_minus(
-        &self,
-        dict: Dict,
-        active: Option<u64>,
-        left: Rows,
-        right: &Operator,
-    ) -> Result<(Rows, Dict), EvalFault>
-        requires index { AreBelow (length dict) self.now.index.now }
-        requires active { ForSome active (λ g. g < length dict) }
-        requires same_width { left.width ≡ self.now.width }
-        requires known_left { AreKnown dict left }
-        requires within { is_within self.now.width (algebra_of right.now) ≡ true }
-        ensures evaluated { IfOk result (λ r. IsEvaluated dict left.width
-            (minus term_eq (solutions_of dict left)
-            (tree_solutions dict self.now.index.now self.now.width active right.now)) r.0 r.1) }
-        ensures needed { IfOk result (λ r. TakesOnly (Needed dict self.now.index.now self.now.width active
-            (algebra_of right.now)) dict r.1) }
-        ensures one_worker { HasOneWorker self.now.context.how.now → IfErr result (λ fault. fault ≡ Memory) }
-    {
-        let (right, dict) = self.solve_to_join(dict, active, &left, right)?;
-        minus_with(&self.context, self.state, dict, &left, &right)
+        match pairing {
+            Pairing::Join => join_of(&self.context, self.state, dict, left, right),
+            Pairing::LeftJoin(condition) => left_join_with(
+                &self.context,
+                self.state,
+                dict,
+                &left,
+                &right,
+                condition,
+                self.place(Owner::LeftJoin, condition),
+            ),
+            Pairing::Minus => minus_with(&self.context, self.state, dict, &left, &right),
+        }
     }
 }

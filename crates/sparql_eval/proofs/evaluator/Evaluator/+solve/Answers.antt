@@ -1,4 +1,4 @@
-use Rattle.std.proofs.Common.{◌≡◌, ℕ, ◌<◌, Bool, false, not, ◌&&◌, List, [], ◌∷◌, ◌++◌, true, length, map, filter, flat_map, get_or, slice_get, nat_eq, nat_lt, replicate, set, None, Some, IfOk, refl, sym, ap, subst, ◌∙◌, arith}
+use Rattle.std.proofs.Common.{rules, ◌≡◌, ℕ, ◌<◌, Bool, false, not, ◌&&◌, List, [], ◌∷◌, ◌++◌, true, length, map, filter, flat_map, get_or, slice_get, nat_eq, nat_lt, replicate, set, None, Some, IfOk, refl, sym, ap, subst, ◌∙◌, arith}
 use Rattle.std.specs.List.{list_all}
 use Rattle.std.proofs.lemmas.Bool.{ltb-true}
 use Rattle.std.proofs.lemmas.List.Sorted.{IsPermutation-refl}
@@ -26,6 +26,7 @@ use Rattle.sparql_eval.specs.Computed.{TakesOnly}
 use Rattle.sparql_eval.specs.Evaluated.{IsEvaluated, solutions_of}
 use Rattle.sparql_eval.specs.Fitting.{IsEvaluatedWhere, fits}
 use Rattle.sparql_eval.specs.Mentions.{may_bind, mentions}
+use Rattle.sparql_eval.specs.Pairings.{paired}
 use Rattle.sparql_eval.specs.Possible.{may_join, meets_some}
 use Rattle.sparql_eval.specs.declared.equalities.Equality.{Equality}
 use Rattle.sparql_eval.specs.TreeSolutions.{AreGraphs, Needed, NeededIn, graph_solutions, solutions_in, tree_solutions}
@@ -33,7 +34,7 @@ use Rattle.sparql_eval.proofs.NamedSteps.{all_named, each_more}
 use Rattle.sparql_eval.proofs.ClosedSteps.{as_bag, closed_in, joined_in, joined_left, names_evaluated, no_graphs, none_in, some_graphs, takes_as_each, takes_closed, takes_then, takes_turned}
 use Rattle.sparql_eval.proofs.FittingSteps.{where_all, where_any, where_any_ok, where_filtered, where_joined, where_right, where_whole}
 use Rattle.sparql_eval.proofs.OutwardSteps.{apart_parts, extend_each, filter_each, graphs_kept, join_each, join_each_fitting, join_left_where, join_right_where, left_join_each, minus_each, takes_each_values, takes_pair, union_each}
-use Rattle.sparql_eval.proofs.PossibleSteps.{after_possible, fits_may_join, join_drops, left_join_drops, meets_may_join, minus_drops, next_left, next_right, possible_are, possible_suffice, where_possible}
+use Rattle.sparql_eval.proofs.PossibleSteps.{after_possible, fits_may_join, meets_may_join, next_either, next_known, next_left, paired_drops, paired_keeps, possible_are, possible_suffice, where_possible}
 use Rattle.sparql_eval.proofs.ReadingLaws.{Known, all_taken, grown_itself, grown_twice, read_by, rows_kept}
 use Rattle.sparql_eval.proofs.EvaluateSteps.{active_kept, after_left, after_one, after_right, all_below, as_whole, index_kept, tree_kept, join_keeps, left_join_keeps, union_keeps, minus_keeps, extend_keeps, project_keeps, distinct_keeps}
 use Rattle.sparql_eval.proofs.TreeSteps.{distinct_denotes, distinct_tree, extend_denotes, extend_tree, filter_denotes, filter_tree, graph_denotes, graph_tree, join_denotes, join_tree, left_join_denotes, left_join_tree, minus_denotes, minus_tree, project_denotes, project_tree, table_denotes, table_tree, union_denotes, union_tree}
@@ -51,59 +52,59 @@ solve-returns-in-Pattern-clause-needed g t c =
 
 -- ---- Join
 
-pub solve-solve_join-requires-clause-index : goal.solve-solve_join-requires-clause-index
-solve-solve_join-requires-clause-index g t c κs within = (index_kept c.args.dict c.in_ok-left-in-Join.dict c.in_ok-left-in-Join.ensures.evaluated.grown c.args.self.now.index.now c.requires.index).0
+pub solve-solve_paired-requires-clause-index : goal.solve-solve_paired-requires-clause-index
+solve-solve_paired-requires-clause-index g t c κs within = (index_kept c.args.dict c.in_ok-left-in-Join.dict c.in_ok-left-in-Join.ensures.evaluated.grown c.args.self.now.index.now c.requires.index).0
 
-pub solve-solve_join-requires-clause-active : goal.solve-solve_join-requires-clause-active
-solve-solve_join-requires-clause-active g t c κs within = (active_kept c.args.dict c.in_ok-left-in-Join.dict c.in_ok-left-in-Join.ensures.evaluated.grown c.args.active c.requires.active).0
+pub solve-solve_paired-requires-clause-active : goal.solve-solve_paired-requires-clause-active
+solve-solve_paired-requires-clause-active g t c κs within = (active_kept c.args.dict c.in_ok-left-in-Join.dict c.in_ok-left-in-Join.ensures.evaluated.grown c.args.active c.requires.active).0
 
 pub solve-returns-in_ok-left-in-Join-clause-evaluated : goal.solve-returns-in_ok-left-in-Join-clause-evaluated
 solve-returns-in_ok-left-in-Join-clause-evaluated g t c =
     let s = c.args.self.now in
     let S : Operator → List (Solution Term) = λ tree. tree_solutions c.args.dict s.index.now s.width c.args.active tree in
     let h = c.in_ok-left-in-Join.ensures.evaluated in
-    as_whole c.args.dict s.width c.solve_join.result (join term_eq (S c.deref.result.now) (S c.deref-in-Join.result.now)) (S c.args.tree.now)
+    as_whole c.args.dict s.width c.solve_paired.result (join term_eq (S c.deref.result.now) (S c.deref-in-Join.result.now)) (S c.args.tree.now)
     (ap S c.in-Join.is ∙ join_tree c.args.dict s.index.now s.width c.args.active c.in-Join.left c.in-Join.right ∙ (λ i. join term_eq (S ((sym c.deref.ensures) i)) (S ((sym c.deref-in-Join.ensures) i))))
-    (after_left c.args.dict c.in_ok-left-in-Join.dict s.width c.solve_join.result (λ A B. join term_eq A B) (join_keeps) (S c.deref.result.now) (S c.deref-in-Join.result.now) (tree_solutions c.in_ok-left-in-Join.dict s.index.now s.width c.args.active c.deref-in-Join.result.now)
+    (after_left c.args.dict c.in_ok-left-in-Join.dict s.width c.solve_paired.result (λ A B. join term_eq A B) (join_keeps) (S c.deref.result.now) (S c.deref-in-Join.result.now) (tree_solutions c.in_ok-left-in-Join.dict s.index.now s.width c.args.active c.deref-in-Join.result.now)
     (tree_kept c.args.dict c.in_ok-left-in-Join.dict h.grown s.index.now s.width c.args.active c.deref-in-Join.result.now c.requires.index c.requires.active)
-    c.in_ok-left-in-Join.left h c.solve_join.ensures.evaluated)
+    c.in_ok-left-in-Join.left h c.solve_paired.ensures.evaluated)
 
 pub solve-returns-in_ok-left-in-Join-clause-needed : goal.solve-returns-in_ok-left-in-Join-clause-needed
 solve-returns-in_ok-left-in-Join-clause-needed g t c =
     let s = c.args.self.now in
     let L = algebra_of c.deref.result.now in
     let R = algebra_of c.deref-in-Join.result.now in
-    takes_both c.args.dict c.in_ok-left-in-Join.dict c.in_ok-left-in-Join.ensures.evaluated.grown s.index.now c.requires.index s.width c.args.active c.requires.active c.solve_join.result
+    takes_both c.args.dict c.in_ok-left-in-Join.dict c.in_ok-left-in-Join.ensures.evaluated.grown s.index.now c.requires.index s.width c.args.active c.requires.active c.solve_paired.result
     L R (algebra_of c.args.tree.now) (algebra.Join L R) (ap algebra_of c.in-Join.is ∙ join_denotes c.in-Join.left c.in-Join.right ∙ (λ i. algebra.Join (algebra_of ((sym c.deref.ensures) i)) (algebra_of ((sym c.deref-in-Join.ensures) i)))) (λ x m. m)
-    c.in_ok-left-in-Join.ensures.needed c.solve_join.ensures.needed
+    c.in_ok-left-in-Join.ensures.needed c.solve_paired.ensures.needed
 
 -- ---- LeftJoin
 
-pub solve-solve_left_join-requires-clause-index : goal.solve-solve_left_join-requires-clause-index
-solve-solve_left_join-requires-clause-index g t c κs within = (index_kept c.args.dict c.in_ok-left-in-LeftJoin.dict c.in_ok-left-in-LeftJoin.ensures.evaluated.grown c.args.self.now.index.now c.requires.index).0
+pub solve-solve_paired-requires-in-LeftJoin-clause-index : goal.solve-solve_paired-requires-in-LeftJoin-clause-index
+solve-solve_paired-requires-in-LeftJoin-clause-index g t c κs within = (index_kept c.args.dict c.in_ok-left-in-LeftJoin.dict c.in_ok-left-in-LeftJoin.ensures.evaluated.grown c.args.self.now.index.now c.requires.index).0
 
-pub solve-solve_left_join-requires-clause-active : goal.solve-solve_left_join-requires-clause-active
-solve-solve_left_join-requires-clause-active g t c κs within = (active_kept c.args.dict c.in_ok-left-in-LeftJoin.dict c.in_ok-left-in-LeftJoin.ensures.evaluated.grown c.args.active c.requires.active).0
+pub solve-solve_paired-requires-in-LeftJoin-clause-active : goal.solve-solve_paired-requires-in-LeftJoin-clause-active
+solve-solve_paired-requires-in-LeftJoin-clause-active g t c κs within = (active_kept c.args.dict c.in_ok-left-in-LeftJoin.dict c.in_ok-left-in-LeftJoin.ensures.evaluated.grown c.args.active c.requires.active).0
 
 pub solve-returns-in_ok-left-in-LeftJoin-clause-evaluated : goal.solve-returns-in_ok-left-in-LeftJoin-clause-evaluated
 solve-returns-in_ok-left-in-LeftJoin-clause-evaluated g t c =
     let s = c.args.self.now in
     let S : Operator → List (Solution Term) = λ tree. tree_solutions c.args.dict s.index.now s.width c.args.active tree in
     let h = c.in_ok-left-in-LeftJoin.ensures.evaluated in
-    as_whole c.args.dict s.width c.solve_left_join.result (left_join term_eq (holds (expression_of c.in-LeftJoin.condition)) (S c.deref-in-LeftJoin.result.now) (S c.deref-in-LeftJoin-2.result.now)) (S c.args.tree.now)
+    as_whole c.args.dict s.width c.solve_paired-in-LeftJoin.result (left_join term_eq (holds (expression_of c.in-LeftJoin.condition)) (S c.deref-in-LeftJoin.result.now) (S c.deref-in-LeftJoin-2.result.now)) (S c.args.tree.now)
     (ap S c.in-LeftJoin.is ∙ left_join_tree c.args.dict s.index.now s.width c.args.active c.in-LeftJoin.left c.in-LeftJoin.right c.in-LeftJoin.condition ∙ (λ i. left_join term_eq (holds (expression_of c.in-LeftJoin.condition)) (S ((sym c.deref-in-LeftJoin.ensures) i)) (S ((sym c.deref-in-LeftJoin-2.ensures) i))))
-    (after_left c.args.dict c.in_ok-left-in-LeftJoin.dict s.width c.solve_left_join.result (λ A B. left_join term_eq (holds (expression_of c.in-LeftJoin.condition)) A B) (left_join_keeps (holds (expression_of c.in-LeftJoin.condition))) (S c.deref-in-LeftJoin.result.now) (S c.deref-in-LeftJoin-2.result.now) (tree_solutions c.in_ok-left-in-LeftJoin.dict s.index.now s.width c.args.active c.deref-in-LeftJoin-2.result.now)
+    (after_left c.args.dict c.in_ok-left-in-LeftJoin.dict s.width c.solve_paired-in-LeftJoin.result (λ A B. left_join term_eq (holds (expression_of c.in-LeftJoin.condition)) A B) (left_join_keeps (holds (expression_of c.in-LeftJoin.condition))) (S c.deref-in-LeftJoin.result.now) (S c.deref-in-LeftJoin-2.result.now) (tree_solutions c.in_ok-left-in-LeftJoin.dict s.index.now s.width c.args.active c.deref-in-LeftJoin-2.result.now)
     (tree_kept c.args.dict c.in_ok-left-in-LeftJoin.dict h.grown s.index.now s.width c.args.active c.deref-in-LeftJoin-2.result.now c.requires.index c.requires.active)
-    c.in_ok-left-in-LeftJoin.left h c.solve_left_join.ensures.evaluated)
+    c.in_ok-left-in-LeftJoin.left h c.solve_paired-in-LeftJoin.ensures.evaluated)
 
 pub solve-returns-in_ok-left-in-LeftJoin-clause-needed : goal.solve-returns-in_ok-left-in-LeftJoin-clause-needed
 solve-returns-in_ok-left-in-LeftJoin-clause-needed g t c =
     let s = c.args.self.now in
     let L = algebra_of c.deref-in-LeftJoin.result.now in
     let R = algebra_of c.deref-in-LeftJoin-2.result.now in
-    takes_both c.args.dict c.in_ok-left-in-LeftJoin.dict c.in_ok-left-in-LeftJoin.ensures.evaluated.grown s.index.now c.requires.index s.width c.args.active c.requires.active c.solve_left_join.result
+    takes_both c.args.dict c.in_ok-left-in-LeftJoin.dict c.in_ok-left-in-LeftJoin.ensures.evaluated.grown s.index.now c.requires.index s.width c.args.active c.requires.active c.solve_paired-in-LeftJoin.result
     L R (algebra_of c.args.tree.now) (algebra.LeftJoin L R (expression_of c.in-LeftJoin.condition)) (ap algebra_of c.in-LeftJoin.is ∙ left_join_denotes c.in-LeftJoin.left c.in-LeftJoin.right c.in-LeftJoin.condition ∙ (λ i. algebra.LeftJoin (algebra_of ((sym c.deref-in-LeftJoin.ensures) i)) (algebra_of ((sym c.deref-in-LeftJoin-2.ensures) i)) (expression_of c.in-LeftJoin.condition))) (λ x m. m)
-    c.in_ok-left-in-LeftJoin.ensures.needed c.solve_left_join.ensures.needed
+    c.in_ok-left-in-LeftJoin.ensures.needed c.solve_paired-in-LeftJoin.ensures.needed
 
 -- ---- Union
 
@@ -136,31 +137,31 @@ solve-returns-in_ok-right-in-Union-clause-needed g t c =
 
 -- ---- Minus
 
-pub solve-solve_minus-requires-clause-index : goal.solve-solve_minus-requires-clause-index
-solve-solve_minus-requires-clause-index g t c κs within = (index_kept c.args.dict c.in_ok-left-in-Minus.dict c.in_ok-left-in-Minus.ensures.evaluated.grown c.args.self.now.index.now c.requires.index).0
+pub solve-solve_paired-requires-in-Minus-clause-index : goal.solve-solve_paired-requires-in-Minus-clause-index
+solve-solve_paired-requires-in-Minus-clause-index g t c κs within = (index_kept c.args.dict c.in_ok-left-in-Minus.dict c.in_ok-left-in-Minus.ensures.evaluated.grown c.args.self.now.index.now c.requires.index).0
 
-pub solve-solve_minus-requires-clause-active : goal.solve-solve_minus-requires-clause-active
-solve-solve_minus-requires-clause-active g t c κs within = (active_kept c.args.dict c.in_ok-left-in-Minus.dict c.in_ok-left-in-Minus.ensures.evaluated.grown c.args.active c.requires.active).0
+pub solve-solve_paired-requires-in-Minus-clause-active : goal.solve-solve_paired-requires-in-Minus-clause-active
+solve-solve_paired-requires-in-Minus-clause-active g t c κs within = (active_kept c.args.dict c.in_ok-left-in-Minus.dict c.in_ok-left-in-Minus.ensures.evaluated.grown c.args.active c.requires.active).0
 
 pub solve-returns-in_ok-left-in-Minus-clause-evaluated : goal.solve-returns-in_ok-left-in-Minus-clause-evaluated
 solve-returns-in_ok-left-in-Minus-clause-evaluated g t c =
     let s = c.args.self.now in
     let S : Operator → List (Solution Term) = λ tree. tree_solutions c.args.dict s.index.now s.width c.args.active tree in
     let h = c.in_ok-left-in-Minus.ensures.evaluated in
-    as_whole c.args.dict s.width c.solve_minus.result (minus term_eq (S c.deref-in-Minus.result.now) (S c.deref-in-Minus-2.result.now)) (S c.args.tree.now)
+    as_whole c.args.dict s.width c.solve_paired-in-Minus.result (minus term_eq (S c.deref-in-Minus.result.now) (S c.deref-in-Minus-2.result.now)) (S c.args.tree.now)
     (ap S c.in-Minus.is ∙ minus_tree c.args.dict s.index.now s.width c.args.active c.in-Minus.left c.in-Minus.right ∙ (λ i. minus term_eq (S ((sym c.deref-in-Minus.ensures) i)) (S ((sym c.deref-in-Minus-2.ensures) i))))
-    (after_left c.args.dict c.in_ok-left-in-Minus.dict s.width c.solve_minus.result (λ A B. minus term_eq A B) (minus_keeps) (S c.deref-in-Minus.result.now) (S c.deref-in-Minus-2.result.now) (tree_solutions c.in_ok-left-in-Minus.dict s.index.now s.width c.args.active c.deref-in-Minus-2.result.now)
+    (after_left c.args.dict c.in_ok-left-in-Minus.dict s.width c.solve_paired-in-Minus.result (λ A B. minus term_eq A B) (minus_keeps) (S c.deref-in-Minus.result.now) (S c.deref-in-Minus-2.result.now) (tree_solutions c.in_ok-left-in-Minus.dict s.index.now s.width c.args.active c.deref-in-Minus-2.result.now)
     (tree_kept c.args.dict c.in_ok-left-in-Minus.dict h.grown s.index.now s.width c.args.active c.deref-in-Minus-2.result.now c.requires.index c.requires.active)
-    c.in_ok-left-in-Minus.left h c.solve_minus.ensures.evaluated)
+    c.in_ok-left-in-Minus.left h c.solve_paired-in-Minus.ensures.evaluated)
 
 pub solve-returns-in_ok-left-in-Minus-clause-needed : goal.solve-returns-in_ok-left-in-Minus-clause-needed
 solve-returns-in_ok-left-in-Minus-clause-needed g t c =
     let s = c.args.self.now in
     let L = algebra_of c.deref-in-Minus.result.now in
     let R = algebra_of c.deref-in-Minus-2.result.now in
-    takes_both c.args.dict c.in_ok-left-in-Minus.dict c.in_ok-left-in-Minus.ensures.evaluated.grown s.index.now c.requires.index s.width c.args.active c.requires.active c.solve_minus.result
+    takes_both c.args.dict c.in_ok-left-in-Minus.dict c.in_ok-left-in-Minus.ensures.evaluated.grown s.index.now c.requires.index s.width c.args.active c.requires.active c.solve_paired-in-Minus.result
     L R (algebra_of c.args.tree.now) (algebra.Minus L R) (ap algebra_of c.in-Minus.is ∙ minus_denotes c.in-Minus.left c.in-Minus.right ∙ (λ i. algebra.Minus (algebra_of ((sym c.deref-in-Minus.ensures) i)) (algebra_of ((sym c.deref-in-Minus-2.ensures) i)))) (λ x m. m)
-    c.in_ok-left-in-Minus.ensures.needed c.solve_minus.ensures.needed
+    c.in_ok-left-in-Minus.ensures.needed c.solve_paired-in-Minus.ensures.needed
 
 -- ---- Filter
 
@@ -235,50 +236,22 @@ solve-returns-in_ok-rows-in-Distinct-clause-needed g t c =
 
 -- ---- an operator over the rows of its inputs
 
-pub solve_join-join_of-requires-clause-known_left : goal.solve_join-join_of-requires-clause-known_left
-solve_join-join_of-requires-clause-known_left g t c κs within = (rows_kept c.args.dict c.in_ok-right.dict c.in_ok-right.ensures.evaluated.grown c.args.left.rows c.requires.known_left).0
+pub solve_paired-pair-requires-clause-known_left : goal.solve_paired-pair-requires-clause-known_left
+solve_paired-pair-requires-clause-known_left g t c κs within = (rows_kept c.args.dict c.in_ok-right.dict c.in_ok-right.ensures.evaluated.grown c.args.left.rows c.requires.known_left).0
 
-pub solve_join-returns-clause-evaluated : goal.solve_join-returns-clause-evaluated
-solve_join-returns-clause-evaluated g t c =
+pub solve_paired-returns-clause-evaluated : goal.solve_paired-returns-clause-evaluated
+solve_paired-returns-clause-evaluated g t c =
     let s = c.args.self.now in
     let S : Operator → List (Solution Term) = λ tree. tree_solutions c.args.dict s.index.now s.width c.args.active tree in
-    after_possible c.args.dict c.in_ok-right.dict s.width c.join_of.result (join term_eq) join_keeps join_drops (S c.args.right.now) c.args.left c.in_ok-right.right c.requires.known_left c.in_ok-right.ensures.evaluated c.join_of.ensures.evaluated
+    after_possible c.args.dict c.in_ok-right.dict s.width c.pair.result (paired c.args.pairing) (paired_keeps c.args.pairing) (paired_drops c.args.pairing) (S c.args.right.now) c.args.left c.in_ok-right.right c.requires.known_left c.in_ok-right.ensures.evaluated c.pair.ensures.evaluated
 
-pub solve_join-returns-clause-needed : goal.solve_join-returns-clause-needed
-solve_join-returns-clause-needed g t c =
+pub solve_paired-returns-clause-needed : goal.solve_paired-returns-clause-needed
+solve_paired-returns-clause-needed g t c =
     let s = c.args.self.now in
-    takes_still (Needed c.args.dict s.index.now s.width c.args.active (algebra_of c.args.right.now)) c.args.dict c.in_ok-right.dict c.join_of.result c.in_ok-right.ensures.needed c.join_of.ensures.same_dict
-
-pub solve_left_join-left_join_with-requires-clause-known_left : goal.solve_left_join-left_join_with-requires-clause-known_left
-solve_left_join-left_join_with-requires-clause-known_left g t c κs within = (rows_kept c.args.dict c.in_ok-right.dict c.in_ok-right.ensures.evaluated.grown c.args.left.rows c.requires.known_left).0
-
-pub solve_left_join-returns-clause-evaluated : goal.solve_left_join-returns-clause-evaluated
-solve_left_join-returns-clause-evaluated g t c =
-    let s = c.args.self.now in
-    let S : Operator → List (Solution Term) = λ tree. tree_solutions c.args.dict s.index.now s.width c.args.active tree in
-    after_possible c.args.dict c.in_ok-right.dict s.width c.left_join_with.result (left_join term_eq (holds (expression_of c.args.condition.now))) (left_join_keeps (holds (expression_of c.args.condition.now))) (left_join_drops (holds (expression_of c.args.condition.now))) (S c.args.right.now) c.args.left c.in_ok-right.right c.requires.known_left c.in_ok-right.ensures.evaluated c.left_join_with.ensures.evaluated
-
-pub solve_left_join-returns-clause-needed : goal.solve_left_join-returns-clause-needed
-solve_left_join-returns-clause-needed g t c =
-    let s = c.args.self.now in
-    takes_still (Needed c.args.dict s.index.now s.width c.args.active (algebra_of c.args.right.now)) c.args.dict c.in_ok-right.dict c.left_join_with.result c.in_ok-right.ensures.needed c.left_join_with.ensures.same_dict
+    takes_still (Needed c.args.dict s.index.now s.width c.args.active (algebra_of c.args.right.now)) c.args.dict c.in_ok-right.dict c.pair.result c.in_ok-right.ensures.needed c.pair.ensures.same_dict
 
 pub solve-union_of-requires-clause-known_left : goal.solve-union_of-requires-clause-known_left
 solve-union_of-requires-clause-known_left g t c = (rows_kept c.in_ok-left-in-Union.dict c.in_ok-right-in-Union.dict c.in_ok-right-in-Union.ensures.evaluated.grown c.in_ok-left-in-Union.left.rows c.in_ok-left-in-Union.ensures.evaluated.known).0
-
-pub solve_minus-minus_with-requires-clause-known_left : goal.solve_minus-minus_with-requires-clause-known_left
-solve_minus-minus_with-requires-clause-known_left g t c κs within = (rows_kept c.args.dict c.in_ok-right.dict c.in_ok-right.ensures.evaluated.grown c.args.left.rows c.requires.known_left).0
-
-pub solve_minus-returns-clause-evaluated : goal.solve_minus-returns-clause-evaluated
-solve_minus-returns-clause-evaluated g t c =
-    let s = c.args.self.now in
-    let S : Operator → List (Solution Term) = λ tree. tree_solutions c.args.dict s.index.now s.width c.args.active tree in
-    after_possible c.args.dict c.in_ok-right.dict s.width c.minus_with.result (minus term_eq) minus_keeps minus_drops (S c.args.right.now) c.args.left c.in_ok-right.right c.requires.known_left c.in_ok-right.ensures.evaluated c.minus_with.ensures.evaluated
-
-pub solve_minus-returns-clause-needed : goal.solve_minus-returns-clause-needed
-solve_minus-returns-clause-needed g t c =
-    let s = c.args.self.now in
-    takes_still (Needed c.args.dict s.index.now s.width c.args.active (algebra_of c.args.right.now)) c.args.dict c.in_ok-right.dict c.minus_with.result c.in_ok-right.ensures.needed c.minus_with.ensures.same_dict
 
 -- ---- Table
 
@@ -340,8 +313,8 @@ solve_graph-returns-in-Variable-clause-needed g t c =
 
 -- ---- some graphs
 
-pub solve_each-solve_join-requires-clause-known_left : goal.solve_each-solve_join-requires-clause-known_left
-solve_each-solve_join-requires-clause-known_left g t c κs within =
+pub solve_each-solve_paired-requires-clause-known_left : goal.solve_each-solve_paired-requires-clause-known_left
+solve_each-solve_paired-requires-clause-known_left g t c κs within =
     let s = c.args.self.now in
     (names_evaluated c.args.dict s.width c.args.variable c.args.graphs.now (λ k n at. (c.requires.graphs.1 k n at).0) c.in_ok-names.names c.in_ok-names.ensures.width c.in_ok-names.ensures.rows).known
 
@@ -353,14 +326,14 @@ solve_each-returns-then-is_closed-clause-evaluated g t c =
     let A = flat_map (named s.width c.args.variable) (map (term_at terms) c.args.graphs.now) in
     let B = tree_solutions terms s.index.now s.width None c.args.inner.now in
     let names = names_evaluated terms s.width c.args.variable c.args.graphs.now (λ k n at. (c.requires.graphs.1 k n at).0) c.in_ok-names.names c.in_ok-names.ensures.width c.in_ok-names.ensures.rows in
-    as_whole terms s.width c.solve_join.result (join term_eq A B) (solutions_in terms s.index.now s.width c.args.variable c.args.graphs.now C)
+    as_whole terms s.width c.solve_paired.result (join term_eq A B) (solutions_in terms s.index.now s.width c.args.variable c.args.graphs.now C)
     (closed_in s.width (quads_at terms s.index.now) c.args.variable (map (term_at terms) c.args.graphs.now) C (sym c.is_closed.ensures.value ∙ c.if-is_closed.true))
-    (after_left terms terms s.width c.solve_join.result (join term_eq) join_keeps A B B refl c.in_ok-names.names names c.solve_join.ensures.evaluated)
+    (after_left terms terms s.width c.solve_paired.result (join term_eq) join_keeps A B B refl c.in_ok-names.names names c.solve_paired.ensures.evaluated)
 
 pub solve_each-returns-then-is_closed-clause-needed : goal.solve_each-returns-then-is_closed-clause-needed
 solve_each-returns-then-is_closed-clause-needed g t c =
     let s = c.args.self.now in
-    takes_closed c.args.dict s.index.now s.width c.args.variable c.args.graphs.now c.requires.graphs c.solve_join.result (algebra_of c.args.inner.now) (some_graphs c.args.graphs.now c.if-is_empty.ensures) (sym c.is_closed.ensures.value ∙ c.if-is_closed.true) c.solve_join.ensures.needed
+    takes_closed c.args.dict s.index.now s.width c.args.variable c.args.graphs.now c.requires.graphs c.solve_paired.result (algebra_of c.args.inner.now) (some_graphs c.args.graphs.now c.if-is_empty.ensures) (sym c.is_closed.ensures.value ∙ c.if-is_closed.true) c.solve_paired.ensures.needed
 
 -- ---- no graph
 
@@ -371,11 +344,11 @@ solve_each-returns-then-is_empty-clause-evaluated g t c =
 
 -- ---- a join with a closed tree
 
-pub solve_each-solve_join-requires-then-is_closed-2-clause-index : goal.solve_each-solve_join-requires-then-is_closed-2-clause-index
-solve_each-solve_join-requires-then-is_closed-2-clause-index g t c κs within = (index_kept c.args.dict c.in_ok-rows.dict c.in_ok-rows.ensures.evaluated.grown c.args.self.now.index.now c.requires.index).0
+pub solve_each-solve_paired-requires-then-is_closed-2-clause-index : goal.solve_each-solve_paired-requires-then-is_closed-2-clause-index
+solve_each-solve_paired-requires-then-is_closed-2-clause-index g t c κs within = (index_kept c.args.dict c.in_ok-rows.dict c.in_ok-rows.ensures.evaluated.grown c.args.self.now.index.now c.requires.index).0
 
-pub solve_each-solve_join-requires-then-is_closed-2-clause-within : goal.solve_each-solve_join-requires-then-is_closed-2-clause-within
-solve_each-solve_join-requires-then-is_closed-2-clause-within g t c κs within =
+pub solve_each-solve_paired-requires-then-is_closed-2-clause-within : goal.solve_each-solve_paired-requires-then-is_closed-2-clause-within
+solve_each-solve_paired-requires-then-is_closed-2-clause-within g t c κs within =
     subst (λ (T : Operator). is_within c.args.self.now.width (algebra_of T) ≡ true) (sym c.deref-then-is_closed-2-2.ensures) (join_within c.args.self.now.width c.in-Join.left c.in-Join.right c.args.inner.now c.in-Join.is c.requires.within).1
 
 pub solve_each-returns-then-is_closed-2-clause-evaluated : goal.solve_each-returns-then-is_closed-2-clause-evaluated
@@ -389,12 +362,12 @@ solve_each-returns-then-is_closed-2-clause-evaluated g t c =
     let C = algebra_of c.in-Join.right.value in
     let closed : is_closed C ≡ true = ap (λ (T : Operator). is_closed (algebra_of T)) (sym c.deref.ensures) ∙ sym c.is_closed-in-Join.ensures.value ∙ c.if-is_closed-2.true in
     let h = c.in_ok-rows.ensures.evaluated in
-    as_whole terms s.width c.solve_join-then-is_closed-2.result (join term_eq (whole L) (tree_solutions terms s.index.now s.width None c.in-Join.right.value)) (whole (algebra_of c.args.inner.now))
+    as_whole terms s.width c.solve_paired-then-is_closed-2.result (join term_eq (whole L) (tree_solutions terms s.index.now s.width None c.in-Join.right.value)) (whole (algebra_of c.args.inner.now))
     (ap (λ (T : Operator). whole (algebra_of T)) c.in-Join.is ∙ ap whole (join_denotes c.in-Join.left c.in-Join.right) ∙ joined_in s.width (quads_at terms s.index.now) v (map (term_at terms) graphs) L C closed)
-    (after_left terms c.in_ok-rows.dict s.width c.solve_join-then-is_closed-2.result (join term_eq) join_keeps (whole L) (tree_solutions terms s.index.now s.width None c.in-Join.right.value)
+    (after_left terms c.in_ok-rows.dict s.width c.solve_paired-then-is_closed-2.result (join term_eq) join_keeps (whole L) (tree_solutions terms s.index.now s.width None c.in-Join.right.value)
     (tree_solutions c.in_ok-rows.dict s.index.now s.width None c.deref-then-is_closed-2-2.result.now)
     (tree_kept terms c.in_ok-rows.dict h.grown s.index.now s.width None c.deref-then-is_closed-2-2.result.now c.requires.index (λ n e. cc) ∙ ap (tree_solutions terms s.index.now s.width None) c.deref-then-is_closed-2-2.ensures)
-    c.in_ok-rows.rows (subst (λ (T : Operator). IsEvaluated terms s.width (whole (algebra_of T)) c.in_ok-rows.rows c.in_ok-rows.dict) c.deref-then-is_closed-2.ensures h) c.solve_join-then-is_closed-2.ensures.evaluated)
+    c.in_ok-rows.rows (subst (λ (T : Operator). IsEvaluated terms s.width (whole (algebra_of T)) c.in_ok-rows.rows c.in_ok-rows.dict) c.deref-then-is_closed-2.ensures h) c.solve_paired-then-is_closed-2.ensures.evaluated)
 
 pub solve_each-returns-then-is_closed-2-clause-needed : goal.solve_each-returns-then-is_closed-2-clause-needed
 solve_each-returns-then-is_closed-2-clause-needed g t c =
@@ -406,16 +379,16 @@ solve_each-returns-then-is_closed-2-clause-needed g t c =
     let closed : is_closed C ≡ true = ap (λ (T : Operator). is_closed (algebra_of T)) (sym c.deref.ensures) ∙ sym c.is_closed-in-Join.ensures.value ∙ c.if-is_closed-2.true in
     let is : algebra_of c.args.inner.now ≡ algebra.Join L C = ap algebra_of c.in-Join.is ∙ join_denotes c.in-Join.left c.in-Join.right in
     let some = some_graphs c.args.graphs.now c.if-is_empty.ensures in
-    takes_as_each terms s.index.now s.width v c.solve_join-then-is_closed-2.result (algebra_of c.args.inner.now) (algebra.Join L C) is
-    (takes_then terms s.index.now s.width v c.args.graphs.now c.requires.graphs c.solve_join-then-is_closed-2.result L C c.in_ok-rows.dict c.in_ok-rows.ensures.evaluated.grown c.requires.index some closed
+    takes_as_each terms s.index.now s.width v c.solve_paired-then-is_closed-2.result (algebra_of c.args.inner.now) (algebra.Join L C) is
+    (takes_then terms s.index.now s.width v c.args.graphs.now c.requires.graphs c.solve_paired-then-is_closed-2.result L C c.in_ok-rows.dict c.in_ok-rows.ensures.evaluated.grown c.requires.index some closed
     (subst (λ (T : Operator). TakesOnly (NeededIn terms s.index.now s.width (each_graph v) (algebra_of T)) terms c.in_ok-rows.dict) c.deref-then-is_closed-2.ensures c.in_ok-rows.ensures.needed)
-    (subst (λ (T : Operator). IfOk c.solve_join-then-is_closed-2.result (λ x. TakesOnly (Needed c.in_ok-rows.dict s.index.now s.width None (algebra_of T)) c.in_ok-rows.dict x.1)) c.deref-then-is_closed-2-2.ensures c.solve_join-then-is_closed-2.ensures.needed))
+    (subst (λ (T : Operator). IfOk c.solve_paired-then-is_closed-2.result (λ x. TakesOnly (Needed c.in_ok-rows.dict s.index.now s.width None (algebra_of T)) c.in_ok-rows.dict x.1)) c.deref-then-is_closed-2-2.ensures c.solve_paired-then-is_closed-2.ensures.needed))
 
-pub solve_each-solve_join-requires-then-is_closed-3-clause-index : goal.solve_each-solve_join-requires-then-is_closed-3-clause-index
-solve_each-solve_join-requires-then-is_closed-3-clause-index g t c κs within = (index_kept c.args.dict c.in_ok-others.dict c.in_ok-others.ensures.evaluated.grown c.args.self.now.index.now c.requires.index).0
+pub solve_each-solve_paired-requires-then-is_closed-3-clause-index : goal.solve_each-solve_paired-requires-then-is_closed-3-clause-index
+solve_each-solve_paired-requires-then-is_closed-3-clause-index g t c κs within = (index_kept c.args.dict c.in_ok-others.dict c.in_ok-others.ensures.evaluated.grown c.args.self.now.index.now c.requires.index).0
 
-pub solve_each-solve_join-requires-then-is_closed-3-clause-within : goal.solve_each-solve_join-requires-then-is_closed-3-clause-within
-solve_each-solve_join-requires-then-is_closed-3-clause-within g t c κs within =
+pub solve_each-solve_paired-requires-then-is_closed-3-clause-within : goal.solve_each-solve_paired-requires-then-is_closed-3-clause-within
+solve_each-solve_paired-requires-then-is_closed-3-clause-within g t c κs within =
     subst (λ (T : Operator). is_within c.args.self.now.width (algebra_of T) ≡ true) (sym c.deref-then-is_closed-3-2.ensures) (join_within c.args.self.now.width c.in-Join.left c.in-Join.right c.args.inner.now c.in-Join.is c.requires.within).0
 
 pub solve_each-returns-then-is_closed-3-clause-evaluated : goal.solve_each-returns-then-is_closed-3-clause-evaluated
@@ -430,14 +403,14 @@ solve_each-returns-then-is_closed-3-clause-evaluated g t c =
     let closed : is_closed C ≡ true = ap (λ (T : Operator). is_closed (algebra_of T)) (sym c.deref-in-Join.ensures) ∙ sym c.is_closed-in-Join-2.ensures.value ∙ c.if-is_closed-3.true in
     let h = c.in_ok-others.ensures.evaluated in
     let J = join term_eq (whole R) (tree_solutions terms s.index.now s.width None c.in-Join.left.value) in
-    as_whole terms s.width c.solve_join-then-is_closed-3.result (whole (algebra.Join C R)) (whole (algebra_of c.args.inner.now))
+    as_whole terms s.width c.solve_paired-then-is_closed-3.result (whole (algebra.Join C R)) (whole (algebra_of c.args.inner.now))
     (ap (λ (T : Operator). whole (algebra_of T)) c.in-Join.is ∙ ap whole (join_denotes c.in-Join.left c.in-Join.right))
-    (as_bag terms s.width c.solve_join-then-is_closed-3.result J (whole (algebra.Join C R))
+    (as_bag terms s.width c.solve_paired-then-is_closed-3.result J (whole (algebra.Join C R))
     (joined_left s.width (quads_at terms s.index.now) v (map (term_at terms) graphs) C R closed)
-    (after_left terms c.in_ok-others.dict s.width c.solve_join-then-is_closed-3.result (join term_eq) join_keeps (whole R) (tree_solutions terms s.index.now s.width None c.in-Join.left.value)
+    (after_left terms c.in_ok-others.dict s.width c.solve_paired-then-is_closed-3.result (join term_eq) join_keeps (whole R) (tree_solutions terms s.index.now s.width None c.in-Join.left.value)
     (tree_solutions c.in_ok-others.dict s.index.now s.width None c.deref-then-is_closed-3-2.result.now)
     (tree_kept terms c.in_ok-others.dict h.grown s.index.now s.width None c.deref-then-is_closed-3-2.result.now c.requires.index (λ n e. cc) ∙ ap (tree_solutions terms s.index.now s.width None) c.deref-then-is_closed-3-2.ensures)
-    c.in_ok-others.others (subst (λ (T : Operator). IsEvaluated terms s.width (whole (algebra_of T)) c.in_ok-others.others c.in_ok-others.dict) c.deref-then-is_closed-3.ensures h) c.solve_join-then-is_closed-3.ensures.evaluated))
+    c.in_ok-others.others (subst (λ (T : Operator). IsEvaluated terms s.width (whole (algebra_of T)) c.in_ok-others.others c.in_ok-others.dict) c.deref-then-is_closed-3.ensures h) c.solve_paired-then-is_closed-3.ensures.evaluated))
 
 pub solve_each-returns-then-is_closed-3-clause-needed : goal.solve_each-returns-then-is_closed-3-clause-needed
 solve_each-returns-then-is_closed-3-clause-needed g t c =
@@ -449,11 +422,11 @@ solve_each-returns-then-is_closed-3-clause-needed g t c =
     let closed : is_closed C ≡ true = ap (λ (T : Operator). is_closed (algebra_of T)) (sym c.deref-in-Join.ensures) ∙ sym c.is_closed-in-Join-2.ensures.value ∙ c.if-is_closed-3.true in
     let is : algebra_of c.args.inner.now ≡ algebra.Join C R = ap algebra_of c.in-Join.is ∙ join_denotes c.in-Join.left c.in-Join.right in
     let some = some_graphs c.args.graphs.now c.if-is_empty.ensures in
-    takes_as_each terms s.index.now s.width v c.solve_join-then-is_closed-3.result (algebra_of c.args.inner.now) (algebra.Join C R) is
-    (takes_turned terms s.index.now s.width v c.solve_join-then-is_closed-3.result R C
-    (takes_then terms s.index.now s.width v c.args.graphs.now c.requires.graphs c.solve_join-then-is_closed-3.result R C c.in_ok-others.dict c.in_ok-others.ensures.evaluated.grown c.requires.index some closed
+    takes_as_each terms s.index.now s.width v c.solve_paired-then-is_closed-3.result (algebra_of c.args.inner.now) (algebra.Join C R) is
+    (takes_turned terms s.index.now s.width v c.solve_paired-then-is_closed-3.result R C
+    (takes_then terms s.index.now s.width v c.args.graphs.now c.requires.graphs c.solve_paired-then-is_closed-3.result R C c.in_ok-others.dict c.in_ok-others.ensures.evaluated.grown c.requires.index some closed
     (subst (λ (T : Operator). TakesOnly (NeededIn terms s.index.now s.width (each_graph v) (algebra_of T)) terms c.in_ok-others.dict) c.deref-then-is_closed-3.ensures c.in_ok-others.ensures.needed)
-    (subst (λ (T : Operator). IfOk c.solve_join-then-is_closed-3.result (λ x. TakesOnly (Needed c.in_ok-others.dict s.index.now s.width None (algebra_of T)) c.in_ok-others.dict x.1)) c.deref-then-is_closed-3-2.ensures c.solve_join-then-is_closed-3.ensures.needed)))
+    (subst (λ (T : Operator). IfOk c.solve_paired-then-is_closed-3.result (λ x. TakesOnly (Needed c.in_ok-others.dict s.index.now s.width None (algebra_of T)) c.in_ok-others.dict x.1)) c.deref-then-is_closed-3-2.ensures c.solve_paired-then-is_closed-3.ensures.needed)))
 
 -- ---- one graph after another
 
@@ -584,32 +557,14 @@ solve-solve-requires-in-Distinct-clause-active g t c κs within = c.requires.act
 pub solve-solve_graph-requires-clause-index : goal.solve-solve_graph-requires-clause-index
 solve-solve_graph-requires-clause-index g t c κs within = c.requires.index
 
-pub solve_join-solve_to_join-requires-clause-index : goal.solve_join-solve_to_join-requires-clause-index
-solve_join-solve_to_join-requires-clause-index g t c κs within = c.requires.index
+pub solve_paired-solve_to_join-requires-clause-index : goal.solve_paired-solve_to_join-requires-clause-index
+solve_paired-solve_to_join-requires-clause-index g t c κs within = c.requires.index
 
-pub solve_join-solve_to_join-requires-clause-active : goal.solve_join-solve_to_join-requires-clause-active
-solve_join-solve_to_join-requires-clause-active g t c κs within = c.requires.active
+pub solve_paired-solve_to_join-requires-clause-active : goal.solve_paired-solve_to_join-requires-clause-active
+solve_paired-solve_to_join-requires-clause-active g t c κs within = c.requires.active
 
-pub solve_join-solve_to_join-requires-clause-within : goal.solve_join-solve_to_join-requires-clause-within
-solve_join-solve_to_join-requires-clause-within g t c κs within = c.requires.within
-
-pub solve_left_join-solve_to_join-requires-clause-index : goal.solve_left_join-solve_to_join-requires-clause-index
-solve_left_join-solve_to_join-requires-clause-index g t c κs within = c.requires.index
-
-pub solve_left_join-solve_to_join-requires-clause-active : goal.solve_left_join-solve_to_join-requires-clause-active
-solve_left_join-solve_to_join-requires-clause-active g t c κs within = c.requires.active
-
-pub solve_left_join-solve_to_join-requires-clause-within : goal.solve_left_join-solve_to_join-requires-clause-within
-solve_left_join-solve_to_join-requires-clause-within g t c κs within = c.requires.within
-
-pub solve_minus-solve_to_join-requires-clause-index : goal.solve_minus-solve_to_join-requires-clause-index
-solve_minus-solve_to_join-requires-clause-index g t c κs within = c.requires.index
-
-pub solve_minus-solve_to_join-requires-clause-active : goal.solve_minus-solve_to_join-requires-clause-active
-solve_minus-solve_to_join-requires-clause-active g t c κs within = c.requires.active
-
-pub solve_minus-solve_to_join-requires-clause-within : goal.solve_minus-solve_to_join-requires-clause-within
-solve_minus-solve_to_join-requires-clause-within g t c κs within = c.requires.within
+pub solve_paired-solve_to_join-requires-clause-within : goal.solve_paired-solve_to_join-requires-clause-within
+solve_paired-solve_to_join-requires-clause-within g t c κs within = c.requires.within
 
 pub solve_graph-solve-requires-clause-index : goal.solve_graph-solve-requires-clause-index
 solve_graph-solve-requires-clause-index g t c κs within = c.requires.index
@@ -630,35 +585,35 @@ pub solve-solve-requires-clause-within : goal.solve-solve-requires-clause-within
 solve-solve-requires-clause-within g t c κs within =
     subst (λ (T : Operator). is_within c.args.self.now.width (algebra_of T) ≡ true) (sym c.deref.ensures) (join_within c.args.self.now.width c.in-Join.left c.in-Join.right c.args.tree.now c.in-Join.is c.requires.within).0
 
-pub solve-solve_join-requires-clause-within : goal.solve-solve_join-requires-clause-within
-solve-solve_join-requires-clause-within g t c κs within =
+pub solve-solve_paired-requires-clause-within : goal.solve-solve_paired-requires-clause-within
+solve-solve_paired-requires-clause-within g t c κs within =
     subst (λ (T : Operator). is_within c.args.self.now.width (algebra_of T) ≡ true) (sym c.deref-in-Join.ensures) (join_within c.args.self.now.width c.in-Join.left c.in-Join.right c.args.tree.now c.in-Join.is c.requires.within).1
 
-pub solve-solve_join-requires-clause-same_width : goal.solve-solve_join-requires-clause-same_width
-solve-solve_join-requires-clause-same_width g t c κs within = c.in_ok-left-in-Join.ensures.evaluated.wide
+pub solve-solve_paired-requires-clause-same_width : goal.solve-solve_paired-requires-clause-same_width
+solve-solve_paired-requires-clause-same_width g t c κs within = c.in_ok-left-in-Join.ensures.evaluated.wide
 
-pub solve-solve_join-requires-clause-known_left : goal.solve-solve_join-requires-clause-known_left
-solve-solve_join-requires-clause-known_left g t c κs within = c.in_ok-left-in-Join.ensures.evaluated.known
+pub solve-solve_paired-requires-clause-known_left : goal.solve-solve_paired-requires-clause-known_left
+solve-solve_paired-requires-clause-known_left g t c κs within = c.in_ok-left-in-Join.ensures.evaluated.known
 
 pub solve-returns-in_ok-left-in-Join-clause-one_worker : goal.solve-returns-in_ok-left-in-Join-clause-one_worker
-solve-returns-in_ok-left-in-Join-clause-one_worker g t c = c.solve_join.ensures.one_worker
+solve-returns-in_ok-left-in-Join-clause-one_worker g t c = c.solve_paired.ensures.one_worker
 
 pub solve-solve-requires-in-LeftJoin-clause-within : goal.solve-solve-requires-in-LeftJoin-clause-within
 solve-solve-requires-in-LeftJoin-clause-within g t c κs within =
     subst (λ (T : Operator). is_within c.args.self.now.width (algebra_of T) ≡ true) (sym c.deref-in-LeftJoin.ensures) (left_join_within c.args.self.now.width c.in-LeftJoin.left c.in-LeftJoin.right c.in-LeftJoin.condition c.args.tree.now c.in-LeftJoin.is c.requires.within).0
 
-pub solve-solve_left_join-requires-clause-within : goal.solve-solve_left_join-requires-clause-within
-solve-solve_left_join-requires-clause-within g t c κs within =
+pub solve-solve_paired-requires-in-LeftJoin-clause-within : goal.solve-solve_paired-requires-in-LeftJoin-clause-within
+solve-solve_paired-requires-in-LeftJoin-clause-within g t c κs within =
     subst (λ (T : Operator). is_within c.args.self.now.width (algebra_of T) ≡ true) (sym c.deref-in-LeftJoin-2.ensures) (left_join_within c.args.self.now.width c.in-LeftJoin.left c.in-LeftJoin.right c.in-LeftJoin.condition c.args.tree.now c.in-LeftJoin.is c.requires.within).1
 
-pub solve-solve_left_join-requires-clause-same_width : goal.solve-solve_left_join-requires-clause-same_width
-solve-solve_left_join-requires-clause-same_width g t c κs within = c.in_ok-left-in-LeftJoin.ensures.evaluated.wide
+pub solve-solve_paired-requires-in-LeftJoin-clause-same_width : goal.solve-solve_paired-requires-in-LeftJoin-clause-same_width
+solve-solve_paired-requires-in-LeftJoin-clause-same_width g t c κs within = c.in_ok-left-in-LeftJoin.ensures.evaluated.wide
 
-pub solve-solve_left_join-requires-clause-known_left : goal.solve-solve_left_join-requires-clause-known_left
-solve-solve_left_join-requires-clause-known_left g t c κs within = c.in_ok-left-in-LeftJoin.ensures.evaluated.known
+pub solve-solve_paired-requires-in-LeftJoin-clause-known_left : goal.solve-solve_paired-requires-in-LeftJoin-clause-known_left
+solve-solve_paired-requires-in-LeftJoin-clause-known_left g t c κs within = c.in_ok-left-in-LeftJoin.ensures.evaluated.known
 
 pub solve-returns-in_ok-left-in-LeftJoin-clause-one_worker : goal.solve-returns-in_ok-left-in-LeftJoin-clause-one_worker
-solve-returns-in_ok-left-in-LeftJoin-clause-one_worker g t c = c.solve_left_join.ensures.one_worker
+solve-returns-in_ok-left-in-LeftJoin-clause-one_worker g t c = c.solve_paired-in-LeftJoin.ensures.one_worker
 
 pub solve-solve-requires-in-Union-clause-within : goal.solve-solve-requires-in-Union-clause-within
 solve-solve-requires-in-Union-clause-within g t c κs within =
@@ -675,18 +630,18 @@ pub solve-solve-requires-in-Minus-clause-within : goal.solve-solve-requires-in-M
 solve-solve-requires-in-Minus-clause-within g t c κs within =
     subst (λ (T : Operator). is_within c.args.self.now.width (algebra_of T) ≡ true) (sym c.deref-in-Minus.ensures) (minus_within c.args.self.now.width c.in-Minus.left c.in-Minus.right c.args.tree.now c.in-Minus.is c.requires.within).0
 
-pub solve-solve_minus-requires-clause-within : goal.solve-solve_minus-requires-clause-within
-solve-solve_minus-requires-clause-within g t c κs within =
+pub solve-solve_paired-requires-in-Minus-clause-within : goal.solve-solve_paired-requires-in-Minus-clause-within
+solve-solve_paired-requires-in-Minus-clause-within g t c κs within =
     subst (λ (T : Operator). is_within c.args.self.now.width (algebra_of T) ≡ true) (sym c.deref-in-Minus-2.ensures) (minus_within c.args.self.now.width c.in-Minus.left c.in-Minus.right c.args.tree.now c.in-Minus.is c.requires.within).1
 
-pub solve-solve_minus-requires-clause-same_width : goal.solve-solve_minus-requires-clause-same_width
-solve-solve_minus-requires-clause-same_width g t c κs within = c.in_ok-left-in-Minus.ensures.evaluated.wide
+pub solve-solve_paired-requires-in-Minus-clause-same_width : goal.solve-solve_paired-requires-in-Minus-clause-same_width
+solve-solve_paired-requires-in-Minus-clause-same_width g t c κs within = c.in_ok-left-in-Minus.ensures.evaluated.wide
 
-pub solve-solve_minus-requires-clause-known_left : goal.solve-solve_minus-requires-clause-known_left
-solve-solve_minus-requires-clause-known_left g t c κs within = c.in_ok-left-in-Minus.ensures.evaluated.known
+pub solve-solve_paired-requires-in-Minus-clause-known_left : goal.solve-solve_paired-requires-in-Minus-clause-known_left
+solve-solve_paired-requires-in-Minus-clause-known_left g t c κs within = c.in_ok-left-in-Minus.ensures.evaluated.known
 
 pub solve-returns-in_ok-left-in-Minus-clause-one_worker : goal.solve-returns-in_ok-left-in-Minus-clause-one_worker
-solve-returns-in_ok-left-in-Minus-clause-one_worker g t c = c.solve_minus.ensures.one_worker
+solve-returns-in_ok-left-in-Minus-clause-one_worker g t c = c.solve_paired-in-Minus.ensures.one_worker
 
 pub solve-solve_filter_where-requires-clause-within : goal.solve-solve_filter_where-requires-clause-within
 solve-solve_filter_where-requires-clause-within g t c κs within =
@@ -733,32 +688,14 @@ solve-returns-in-Graph-clause-one_worker g t c = c.solve_graph.ensures.one_worke
 pub solve-returns-in-Pattern-clause-one_worker : goal.solve-returns-in-Pattern-clause-one_worker
 solve-returns-in-Pattern-clause-one_worker g t c = c.pattern_with.ensures.one_worker
 
-pub solve_join-join_of-requires-clause-same_width : goal.solve_join-join_of-requires-clause-same_width
-solve_join-join_of-requires-clause-same_width g t c κs within = c.requires.same_width ∙ sym c.in_ok-right.ensures.evaluated.wide
+pub solve_paired-pair-requires-clause-same_width : goal.solve_paired-pair-requires-clause-same_width
+solve_paired-pair-requires-clause-same_width g t c κs within = c.requires.same_width ∙ sym c.in_ok-right.ensures.evaluated.wide
 
-pub solve_join-join_of-requires-clause-known_right : goal.solve_join-join_of-requires-clause-known_right
-solve_join-join_of-requires-clause-known_right g t c κs within = c.in_ok-right.ensures.evaluated.known
+pub solve_paired-pair-requires-clause-known_right : goal.solve_paired-pair-requires-clause-known_right
+solve_paired-pair-requires-clause-known_right g t c κs within = c.in_ok-right.ensures.evaluated.known
 
-pub solve_join-returns-clause-one_worker : goal.solve_join-returns-clause-one_worker
-solve_join-returns-clause-one_worker g t c = c.join_of.ensures.one_worker
-
-pub solve_left_join-left_join_with-requires-clause-same_width : goal.solve_left_join-left_join_with-requires-clause-same_width
-solve_left_join-left_join_with-requires-clause-same_width g t c κs within = c.requires.same_width ∙ sym c.in_ok-right.ensures.evaluated.wide
-
-pub solve_left_join-left_join_with-requires-clause-known_right : goal.solve_left_join-left_join_with-requires-clause-known_right
-solve_left_join-left_join_with-requires-clause-known_right g t c κs within = c.in_ok-right.ensures.evaluated.known
-
-pub solve_left_join-returns-clause-one_worker : goal.solve_left_join-returns-clause-one_worker
-solve_left_join-returns-clause-one_worker g t c = c.left_join_with.ensures.one_worker
-
-pub solve_minus-minus_with-requires-clause-same_width : goal.solve_minus-minus_with-requires-clause-same_width
-solve_minus-minus_with-requires-clause-same_width g t c κs within = c.requires.same_width ∙ sym c.in_ok-right.ensures.evaluated.wide
-
-pub solve_minus-minus_with-requires-clause-known_right : goal.solve_minus-minus_with-requires-clause-known_right
-solve_minus-minus_with-requires-clause-known_right g t c κs within = c.in_ok-right.ensures.evaluated.known
-
-pub solve_minus-returns-clause-one_worker : goal.solve_minus-returns-clause-one_worker
-solve_minus-returns-clause-one_worker g t c = c.minus_with.ensures.one_worker
+pub solve_paired-returns-clause-one_worker : goal.solve_paired-returns-clause-one_worker
+solve_paired-returns-clause-one_worker g t c = c.pair.ensures.one_worker
 
 pub solve-union_of-requires-clause-same_width : goal.solve-union_of-requires-clause-same_width
 solve-union_of-requires-clause-same_width g t c = c.in_ok-left-in-Union.ensures.evaluated.wide ∙ sym c.in_ok-right-in-Union.ensures.evaluated.wide
@@ -928,14 +865,8 @@ solve_join_where-returns-clause-needed g t c =
 pub solve_join_where-returns-clause-one_worker : goal.solve_join_where-returns-clause-one_worker
 solve_join_where-returns-clause-one_worker g t c = c.join_where.ensures.one_worker
 
-pub solve_join-solve_to_join-requires-clause-known_others : goal.solve_join-solve_to_join-requires-clause-known_others
-solve_join-solve_to_join-requires-clause-known_others g t c κs within = c.requires.known_left
-
-pub solve_left_join-solve_to_join-requires-clause-known_others : goal.solve_left_join-solve_to_join-requires-clause-known_others
-solve_left_join-solve_to_join-requires-clause-known_others g t c κs within = c.requires.known_left
-
-pub solve_minus-solve_to_join-requires-clause-known_others : goal.solve_minus-solve_to_join-requires-clause-known_others
-solve_minus-solve_to_join-requires-clause-known_others g t c κs within = c.requires.known_left
+pub solve_paired-solve_to_join-requires-clause-known_others : goal.solve_paired-solve_to_join-requires-clause-known_others
+solve_paired-solve_to_join-requires-clause-known_others g t c κs within = c.requires.known_left
 
 pub solve_join_where-solve_right_where-requires-clause-known_others : goal.solve_join_where-solve_right_where-requires-clause-known_others
 solve_join_where-solve_right_where-requires-clause-known_others g t c κs within = c.requires.known_left
@@ -974,75 +905,62 @@ solve_to_join-solve-requires-clause-active g t c κs within = c.requires.active
 pub solve_to_join-solve-requires-clause-within : goal.solve_to_join-solve-requires-clause-within
 solve_to_join-solve-requires-clause-within g t c κs within = c.requires.within
 
-pub solve_to_join-solve_join_next-requires-clause-index : goal.solve_to_join-solve_join_next-requires-clause-index
-solve_to_join-solve_join_next-requires-clause-index g t c κs within = (index_kept c.args.dict c.in_ok-rows-in-Join.dict c.in_ok-rows-in-Join.ensures.evaluated.grown c.args.self.now.index.now c.requires.index).0
+pub solve_to_join-solve_to_join-requires-in-Join-clause-index : goal.solve_to_join-solve_to_join-requires-in-Join-clause-index
+solve_to_join-solve_to_join-requires-in-Join-clause-index g t c κs within = (index_kept c.args.dict c.in_ok-rows-in-Join.dict c.in_ok-rows-in-Join.ensures.evaluated.grown c.args.self.now.index.now c.requires.index).0
 
-pub solve_to_join-solve_join_next-requires-clause-active : goal.solve_to_join-solve_join_next-requires-clause-active
-solve_to_join-solve_join_next-requires-clause-active g t c κs within = (active_kept c.args.dict c.in_ok-rows-in-Join.dict c.in_ok-rows-in-Join.ensures.evaluated.grown c.args.active c.requires.active).0
+pub solve_to_join-solve_to_join-requires-in-Join-clause-active : goal.solve_to_join-solve_to_join-requires-in-Join-clause-active
+solve_to_join-solve_to_join-requires-in-Join-clause-active g t c κs within = (active_kept c.args.dict c.in_ok-rows-in-Join.dict c.in_ok-rows-in-Join.ensures.evaluated.grown c.args.active c.requires.active).0
 
-pub solve_to_join-solve_join_next-requires-clause-same_width : goal.solve_to_join-solve_join_next-requires-clause-same_width
-solve_to_join-solve_join_next-requires-clause-same_width g t c κs within = c.in_ok-rows-in-Join.ensures.evaluated.wide
+pub solve_to_join-solve_to_join-requires-in-Join-clause-known_others : goal.solve_to_join-solve_to_join-requires-in-Join-clause-known_others
+solve_to_join-solve_to_join-requires-in-Join-clause-known_others g t c κs within =
+    let h = c.in_ok-rows-in-Join.ensures.evaluated in
+    next_known c.in_ok-rows-in-Join.dict c.in_ok-rows-in-Join.rows c.args.others.now c.rows_to_join-next.result.now c.rows_to_join-next.ensures.either h.known
+    (rows_kept c.args.dict c.in_ok-rows-in-Join.dict h.grown c.args.others.now.rows c.requires.known_others).0
 
-pub solve_to_join-solve_join_next-requires-clause-known_left : goal.solve_to_join-solve_join_next-requires-clause-known_left
-solve_to_join-solve_join_next-requires-clause-known_left g t c κs within = c.in_ok-rows-in-Join.ensures.evaluated.known
+pub solve_to_join-solve_to_join-requires-in-Join-clause-within : goal.solve_to_join-solve_to_join-requires-in-Join-clause-within
+solve_to_join-solve_to_join-requires-in-Join-clause-within g t c κs within =
+    subst (λ (T : Operator). is_within c.args.self.now.width (algebra_of T) ≡ true) (sym c.deref-in-Join-3.ensures) (join_within c.args.self.now.width c.in-Join.left c.in-Join.right c.args.tree.now c.in-Join.is c.requires.within).1
 
-pub solve_to_join-solve_join_next-requires-clause-within : goal.solve_to_join-solve_join_next-requires-clause-within
-solve_to_join-solve_join_next-requires-clause-within g t c κs within =
-    subst (λ (T : Operator). is_within c.args.self.now.width (algebra_of T) ≡ true) (sym c.deref-then-is_empty_pattern.ensures) (join_within c.args.self.now.width c.in-Join.left c.in-Join.right c.args.tree.now c.in-Join.is c.requires.within).1
+pub solve_to_join-join_of-requires-clause-same_width : goal.solve_to_join-join_of-requires-clause-same_width
+solve_to_join-join_of-requires-clause-same_width g t c κs within = c.in_ok-rows-in-Join.ensures.evaluated.wide ∙ sym c.in_ok-right-in-Join.ensures.evaluated.wide
 
-pub solve_to_join-solve_join-requires-clause-index : goal.solve_to_join-solve_join-requires-clause-index
-solve_to_join-solve_join-requires-clause-index g t c κs within = (index_kept c.args.dict c.in_ok-rows-in-Join.dict c.in_ok-rows-in-Join.ensures.evaluated.grown c.args.self.now.index.now c.requires.index).0
+pub solve_to_join-join_of-requires-clause-known_left : goal.solve_to_join-join_of-requires-clause-known_left
+solve_to_join-join_of-requires-clause-known_left g t c κs within =
+    (rows_kept c.in_ok-rows-in-Join.dict c.in_ok-right-in-Join.dict c.in_ok-right-in-Join.ensures.evaluated.grown c.in_ok-rows-in-Join.rows.rows c.in_ok-rows-in-Join.ensures.evaluated.known).0
 
-pub solve_to_join-solve_join-requires-clause-active : goal.solve_to_join-solve_join-requires-clause-active
-solve_to_join-solve_join-requires-clause-active g t c κs within = (active_kept c.args.dict c.in_ok-rows-in-Join.dict c.in_ok-rows-in-Join.ensures.evaluated.grown c.args.active c.requires.active).0
+pub solve_to_join-join_of-requires-clause-known_right : goal.solve_to_join-join_of-requires-clause-known_right
+solve_to_join-join_of-requires-clause-known_right g t c κs within = c.in_ok-right-in-Join.ensures.evaluated.known
 
-pub solve_to_join-solve_join-requires-clause-same_width : goal.solve_to_join-solve_join-requires-clause-same_width
-solve_to_join-solve_join-requires-clause-same_width g t c κs within = c.in_ok-rows-in-Join.ensures.evaluated.wide
-
-pub solve_to_join-solve_join-requires-clause-known_left : goal.solve_to_join-solve_join-requires-clause-known_left
-solve_to_join-solve_join-requires-clause-known_left g t c κs within = c.in_ok-rows-in-Join.ensures.evaluated.known
-
-pub solve_to_join-solve_join-requires-clause-within : goal.solve_to_join-solve_join-requires-clause-within
-solve_to_join-solve_join-requires-clause-within g t c κs within =
-    subst (λ (T : Operator). is_within c.args.self.now.width (algebra_of T) ≡ true) (sym c.deref-else-is_empty_pattern.ensures) (join_within c.args.self.now.width c.in-Join.left c.in-Join.right c.args.tree.now c.in-Join.is c.requires.within).1
-
-pub solve_to_join-solve_join_next-requires-clause-known_others : goal.solve_to_join-solve_join_next-requires-clause-known_others
-solve_to_join-solve_join_next-requires-clause-known_others g t c κs within = (rows_kept c.args.dict c.in_ok-rows-in-Join.dict c.in_ok-rows-in-Join.ensures.evaluated.grown c.args.others.now.rows c.requires.known_others).0
-
-pub solve_join_next-solve_to_join-requires-clause-index : goal.solve_join_next-solve_to_join-requires-clause-index
-solve_join_next-solve_to_join-requires-clause-index g t c κs within = c.requires.index
-
-pub solve_join_next-solve_to_join-requires-clause-active : goal.solve_join_next-solve_to_join-requires-clause-active
-solve_join_next-solve_to_join-requires-clause-active g t c κs within = c.requires.active
-
-pub solve_join_next-solve_to_join-requires-clause-within : goal.solve_join_next-solve_to_join-requires-clause-within
-solve_join_next-solve_to_join-requires-clause-within g t c κs within = c.requires.within
-
-pub solve_join_next-solve_to_join-requires-clause-known_others : goal.solve_join_next-solve_to_join-requires-clause-known_others
-solve_join_next-solve_to_join-requires-clause-known_others g t c κs within = c.requires.known_others
-
-pub solve_join_next-join_of-requires-clause-same_width : goal.solve_join_next-join_of-requires-clause-same_width
-solve_join_next-join_of-requires-clause-same_width g t c κs within = c.requires.same_width ∙ sym c.in_ok-right.ensures.evaluated.wide
-
-pub solve_join_next-join_of-requires-clause-known_left : goal.solve_join_next-join_of-requires-clause-known_left
-solve_join_next-join_of-requires-clause-known_left g t c κs within = (rows_kept c.args.dict c.in_ok-right.dict c.in_ok-right.ensures.evaluated.grown c.args.left.rows c.requires.known_left).0
-
-pub solve_join_next-join_of-requires-clause-known_right : goal.solve_join_next-join_of-requires-clause-known_right
-solve_join_next-join_of-requires-clause-known_right g t c κs within = c.in_ok-right.ensures.evaluated.known
-
-pub solve_join_next-returns-clause-evaluated : goal.solve_join_next-returns-clause-evaluated
-solve_join_next-returns-clause-evaluated g t c =
+pub solve_to_join-returns-in_ok-right-in-Join-clause-evaluated : goal.solve_to_join-returns-in_ok-right-in-Join-clause-evaluated
+solve_to_join-returns-in_ok-right-in-Join-clause-evaluated g t c =
     let s = c.args.self.now in
-    next_right [] c.args.dict c.in_ok-right.dict s.width c.join_of.result (solutions_of c.args.dict c.args.others.now) (tree_solutions c.args.dict s.index.now s.width c.args.active c.args.right.now) c.args.left c.in_ok-right.right c.requires.known_left c.in_ok-right.ensures.evaluated
-    (where_any_ok [] c.in_ok-right.dict c.args.left.width c.join_of.result (join term_eq (solutions_of c.in_ok-right.dict c.args.left) (solutions_of c.in_ok-right.dict c.in_ok-right.right)) c.join_of.ensures.evaluated)
+    let terms = c.args.dict in
+    let S : Operator → List (Solution Term) = λ tree. tree_solutions terms s.index.now s.width c.args.active tree in
+    let now = c.in_ok-rows-in-Join.dict in
+    let rows = c.in_ok-rows-in-Join.rows in
+    let h = c.in_ok-rows-in-Join.ensures.evaluated in
+    let R = c.deref-in-Join-3.result.now in
+    let B = tree_solutions now s.index.now s.width c.args.active R in
+    let J = join term_eq (solutions_of now rows) B in
+    next_left [] terms now s.width c.join_of.result (solutions_of terms c.args.others.now) (S c.deref-in-Join.result.now) (S R) B (S c.args.tree.now) rows
+    (tree_kept terms now h.grown s.index.now s.width c.args.active R c.requires.index c.requires.active)
+    (ap S c.in-Join.is ∙ join_tree terms s.index.now s.width c.args.active c.in-Join.left c.in-Join.right ∙ (λ i. join term_eq (S ((sym c.deref-in-Join.ensures) i)) (S ((sym c.deref-in-Join-3.ensures) i))))
+    h (subst (λ (X : List (Solution Term)). IfOk c.join_of.result (λ x. IsEvaluatedWhere now rows.width (may_join [] X) J x.0 x.1)) (rows_kept terms now h.grown c.args.others.now.rows c.requires.known_others).1
+    (next_either now rows c.args.others.now c.rows_to_join-next.result.now c.rows_to_join-next.ensures.either h.known c.in_ok-right-in-Join.dict s.width c.join_of.result B c.in_ok-right-in-Join.right c.in_ok-right-in-Join.ensures.evaluated c.join_of.ensures.evaluated))
 
-pub solve_join_next-returns-clause-needed : goal.solve_join_next-returns-clause-needed
-solve_join_next-returns-clause-needed g t c =
+pub solve_to_join-returns-in_ok-right-in-Join-clause-needed : goal.solve_to_join-returns-in_ok-right-in-Join-clause-needed
+solve_to_join-returns-in_ok-right-in-Join-clause-needed g t c =
     let s = c.args.self.now in
-    takes_still (Needed c.args.dict s.index.now s.width c.args.active (algebra_of c.args.right.now)) c.args.dict c.in_ok-right.dict c.join_of.result c.in_ok-right.ensures.needed c.join_of.ensures.same_dict
+    let now = c.in_ok-rows-in-Join.dict in
+    let L = algebra_of c.deref-in-Join.result.now in
+    let R = algebra_of c.deref-in-Join-3.result.now in
+    takes_both c.args.dict now c.in_ok-rows-in-Join.ensures.evaluated.grown s.index.now c.requires.index s.width c.args.active c.requires.active c.join_of.result
+    L R (algebra_of c.args.tree.now) (algebra.Join L R) (ap algebra_of c.in-Join.is ∙ join_denotes c.in-Join.left c.in-Join.right ∙ (λ i. algebra.Join (algebra_of ((sym c.deref-in-Join.ensures) i)) (algebra_of ((sym c.deref-in-Join-3.ensures) i)))) (λ x m. m)
+    c.in_ok-rows-in-Join.ensures.needed
+    (takes_still (Needed now s.index.now s.width c.args.active R) now c.in_ok-right-in-Join.dict c.join_of.result c.in_ok-right-in-Join.ensures.needed c.join_of.ensures.same_dict)
 
-pub solve_join_next-returns-clause-one_worker : goal.solve_join_next-returns-clause-one_worker
-solve_join_next-returns-clause-one_worker g t c = c.join_of.ensures.one_worker
+pub solve_to_join-returns-in_ok-right-in-Join-clause-one_worker : goal.solve_to_join-returns-in_ok-right-in-Join-clause-one_worker
+solve_to_join-returns-in_ok-right-in-Join-clause-one_worker g t c = c.join_of.ensures.one_worker
 
 pub solve_to_join-returns-in-Graph-clause-evaluated : goal.solve_to_join-returns-in-Graph-clause-evaluated
 solve_to_join-returns-in-Graph-clause-evaluated g t c =
@@ -1063,62 +981,6 @@ solve_to_join-returns-in-Graph-clause-needed g t c =
 
 pub solve_to_join-returns-in-Graph-clause-one_worker : goal.solve_to_join-returns-in-Graph-clause-one_worker
 solve_to_join-returns-in-Graph-clause-one_worker g t c = c.solve_possible.ensures.one_worker
-
-pub solve_to_join-returns-then-is_empty_pattern-clause-evaluated : goal.solve_to_join-returns-then-is_empty_pattern-clause-evaluated
-solve_to_join-returns-then-is_empty_pattern-clause-evaluated g t c =
-    let s = c.args.self.now in
-    let terms = c.args.dict in
-    let S : Operator → List (Solution Term) = λ tree. tree_solutions terms s.index.now s.width c.args.active tree in
-    let O = solutions_of terms c.args.others.now in
-    let now = c.in_ok-rows-in-Join.dict in
-    let rows = c.in_ok-rows-in-Join.rows in
-    let h = c.in_ok-rows-in-Join.ensures.evaluated in
-    let B = tree_solutions now s.index.now s.width c.args.active c.deref-then-is_empty_pattern.result.now in
-    let J = join term_eq (solutions_of now rows) B in
-    next_left [] terms now s.width c.solve_join_next.result O (S c.deref-in-Join.result.now) (S c.deref-then-is_empty_pattern.result.now) B (S c.args.tree.now) rows
-    (tree_kept terms now h.grown s.index.now s.width c.args.active c.deref-then-is_empty_pattern.result.now c.requires.index c.requires.active)
-    (ap S c.in-Join.is ∙ join_tree terms s.index.now s.width c.args.active c.in-Join.left c.in-Join.right ∙ (λ i. join term_eq (S ((sym c.deref-in-Join.ensures) i)) (S ((sym c.deref-then-is_empty_pattern.ensures) i))))
-    h (subst (λ (X : List (Solution Term)). IfOk c.solve_join_next.result (λ x. IsEvaluatedWhere now rows.width (may_join [] X) J x.0 x.1)) (rows_kept terms now h.grown c.args.others.now.rows c.requires.known_others).1 c.solve_join_next.ensures.evaluated)
-
-pub solve_to_join-returns-then-is_empty_pattern-clause-needed : goal.solve_to_join-returns-then-is_empty_pattern-clause-needed
-solve_to_join-returns-then-is_empty_pattern-clause-needed g t c =
-    let s = c.args.self.now in
-    let L = algebra_of c.deref-in-Join.result.now in
-    let R = algebra_of c.deref-then-is_empty_pattern.result.now in
-    takes_both c.args.dict c.in_ok-rows-in-Join.dict c.in_ok-rows-in-Join.ensures.evaluated.grown s.index.now c.requires.index s.width c.args.active c.requires.active c.solve_join_next.result
-    L R (algebra_of c.args.tree.now) (algebra.Join L R) (ap algebra_of c.in-Join.is ∙ join_denotes c.in-Join.left c.in-Join.right ∙ (λ i. algebra.Join (algebra_of ((sym c.deref-in-Join.ensures) i)) (algebra_of ((sym c.deref-then-is_empty_pattern.ensures) i)))) (λ x m. m)
-    c.in_ok-rows-in-Join.ensures.needed c.solve_join_next.ensures.needed
-
-pub solve_to_join-returns-then-is_empty_pattern-clause-one_worker : goal.solve_to_join-returns-then-is_empty_pattern-clause-one_worker
-solve_to_join-returns-then-is_empty_pattern-clause-one_worker g t c = c.solve_join_next.ensures.one_worker
-
-pub solve_to_join-returns-else-is_empty_pattern-clause-evaluated : goal.solve_to_join-returns-else-is_empty_pattern-clause-evaluated
-solve_to_join-returns-else-is_empty_pattern-clause-evaluated g t c =
-    let s = c.args.self.now in
-    let terms = c.args.dict in
-    let S : Operator → List (Solution Term) = λ tree. tree_solutions terms s.index.now s.width c.args.active tree in
-    let O = solutions_of terms c.args.others.now in
-    let now = c.in_ok-rows-in-Join.dict in
-    let rows = c.in_ok-rows-in-Join.rows in
-    let h = c.in_ok-rows-in-Join.ensures.evaluated in
-    let B = tree_solutions now s.index.now s.width c.args.active c.deref-else-is_empty_pattern.result.now in
-    let J = join term_eq (solutions_of now rows) B in
-    next_left [] terms now s.width c.solve_join.result O (S c.deref-in-Join.result.now) (S c.deref-else-is_empty_pattern.result.now) B (S c.args.tree.now) rows
-    (tree_kept terms now h.grown s.index.now s.width c.args.active c.deref-else-is_empty_pattern.result.now c.requires.index c.requires.active)
-    (ap S c.in-Join.is ∙ join_tree terms s.index.now s.width c.args.active c.in-Join.left c.in-Join.right ∙ (λ i. join term_eq (S ((sym c.deref-in-Join.ensures) i)) (S ((sym c.deref-else-is_empty_pattern.ensures) i))))
-    h (fits_may_join now rows.width c.solve_join.result [] O J J refl (where_any_ok [] now rows.width c.solve_join.result J c.solve_join.ensures.evaluated))
-
-pub solve_to_join-returns-else-is_empty_pattern-clause-needed : goal.solve_to_join-returns-else-is_empty_pattern-clause-needed
-solve_to_join-returns-else-is_empty_pattern-clause-needed g t c =
-    let s = c.args.self.now in
-    let L = algebra_of c.deref-in-Join.result.now in
-    let R = algebra_of c.deref-else-is_empty_pattern.result.now in
-    takes_both c.args.dict c.in_ok-rows-in-Join.dict c.in_ok-rows-in-Join.ensures.evaluated.grown s.index.now c.requires.index s.width c.args.active c.requires.active c.solve_join.result
-    L R (algebra_of c.args.tree.now) (algebra.Join L R) (ap algebra_of c.in-Join.is ∙ join_denotes c.in-Join.left c.in-Join.right ∙ (λ i. algebra.Join (algebra_of ((sym c.deref-in-Join.ensures) i)) (algebra_of ((sym c.deref-else-is_empty_pattern.ensures) i)))) (λ x m. m)
-    c.in_ok-rows-in-Join.ensures.needed c.solve_join.ensures.needed
-
-pub solve_to_join-returns-else-is_empty_pattern-clause-one_worker : goal.solve_to_join-returns-else-is_empty_pattern-clause-one_worker
-solve_to_join-returns-else-is_empty_pattern-clause-one_worker g t c = c.solve_join.ensures.one_worker
 
 pub solve_to_join-returns-in_default-clause-evaluated : goal.solve_to_join-returns-in_default-clause-evaluated
 solve_to_join-returns-in_default-clause-evaluated g t c =
@@ -1265,21 +1127,6 @@ solve_each_filter-returns-clause-needed g t c =
 pub solve_each_filter-returns-clause-one_worker : goal.solve_each_filter-returns-clause-one_worker
 solve_each_filter-returns-clause-one_worker g t c = c.filter_with.ensures.one_worker
 
-pub solve_each_extend-extend-requires-clause-known : goal.solve_each_extend-extend-requires-clause-known
-solve_each_extend-extend-requires-clause-known g t c κs within = c.in_ok-rows.ensures.evaluated.known
-
-pub solve_each_extend-returns-clause-evaluated : goal.solve_each_extend-returns-clause-evaluated
-solve_each_extend-returns-clause-evaluated g t c =
-    let s = c.args.self.now in
-    extend_each c.args.dict s.index.now s.width c.args.variable c.args.graphs.now c.extend.result c.args.bound c.requires.another (expression_of c.args.expression.now) (algebra_of c.args.inner.now) c.requires.not_mentioned
-    c.in_ok-rows.dict c.in_ok-rows.rows c.in_ok-rows.ensures.evaluated c.extend.ensures.evaluated
-
-pub solve_each_extend-returns-clause-needed : goal.solve_each_extend-returns-clause-needed
-solve_each_extend-returns-clause-needed g t c =
-    let s = c.args.self.now in
-    takes_each_values c.args.dict s.index.now s.width c.args.variable c.args.bound (expression_of c.args.expression.now) c.requires.not_mentioned (algebra_of c.args.inner.now) c.args.graphs.now c.requires.graphs c.extend.result
-    c.in_ok-rows.dict c.in_ok-rows.rows c.in_ok-rows.ensures.evaluated c.in_ok-rows.ensures.needed c.extend.ensures.needed
-
 pub solve_outward-union_of-requires-clause-known_left : goal.solve_outward-union_of-requires-clause-known_left
 solve_outward-union_of-requires-clause-known_left g t c = (rows_kept c.in_ok-rows.dict c.in_ok-more.dict c.in_ok-more.ensures.evaluated.grown c.in_ok-rows.rows.rows c.in_ok-rows.ensures.evaluated.known).0
 
@@ -1288,12 +1135,6 @@ solve_outward-union_of-requires-clause-same_width g t c = c.in_ok-rows.ensures.e
 
 pub solve_outward-union_of-requires-clause-known_right : goal.solve_outward-union_of-requires-clause-known_right
 solve_outward-union_of-requires-clause-known_right g t c = c.in_ok-more.ensures.evaluated.known
-
-pub solve_each_extend-returns-clause-one_worker : goal.solve_each_extend-returns-clause-one_worker
-solve_each_extend-returns-clause-one_worker g t c = c.extend.ensures.one_worker
-
-pub solve_each_extend-extend-requires-clause-variable : goal.solve_each_extend-extend-requires-clause-variable
-solve_each_extend-extend-requires-clause-variable g t c κs within = subst (λ (w : ℕ). c.args.bound < w) (sym c.in_ok-rows.ensures.evaluated.wide) c.requires.bound
 
 -- ---- Union, LeftJoin and Minus after the names
 
@@ -1337,11 +1178,11 @@ solve_outward-returns-in-Union-clause-needed g t c =
 pub solve_outward-returns-in-Union-clause-one_worker : goal.solve_outward-returns-in-Union-clause-one_worker
 solve_outward-returns-in-Union-clause-one_worker g t c = λ _. c.union_of.ensures.memory
 
-pub solve_outward-solve_left_join-requires-clause-index : goal.solve_outward-solve_left_join-requires-clause-index
-solve_outward-solve_left_join-requires-clause-index g t c κs within = (index_kept c.args.dict c.in_ok-rows-2.dict c.in_ok-rows-2.ensures.evaluated.grown c.args.self.now.index.now c.requires.index).0
+pub solve_outward-solve_paired-requires-clause-index : goal.solve_outward-solve_paired-requires-clause-index
+solve_outward-solve_paired-requires-clause-index g t c κs within = (index_kept c.args.dict c.in_ok-rows-2.dict c.in_ok-rows-2.ensures.evaluated.grown c.args.self.now.index.now c.requires.index).0
 
-pub solve_outward-solve_left_join-requires-clause-within : goal.solve_outward-solve_left_join-requires-clause-within
-solve_outward-solve_left_join-requires-clause-within g t c κs within =
+pub solve_outward-solve_paired-requires-clause-within : goal.solve_outward-solve_paired-requires-clause-within
+solve_outward-solve_paired-requires-clause-within g t c κs within =
     subst (λ (T : Operator). is_within c.args.self.now.width (algebra_of T) ≡ true) (sym c.deref-then-not-may_mention-2.ensures) (left_join_within c.args.self.now.width c.in-LeftJoin.left c.in-LeftJoin.right c.in-LeftJoin.condition c.args.inner.now c.in-LeftJoin.is c.requires.within).1
 
 pub solve_outward-returns-then-not-may_mention-clause-evaluated : goal.solve_outward-returns-then-not-may_mention-clause-evaluated
@@ -1358,11 +1199,11 @@ solve_outward-returns-then-not-may_mention-clause-evaluated g t c =
     let apart = apart_parts (is_closed C) (may_bind s.width C v) (ap (λ (T : Operator). is_closed (algebra_of T) && not (may_bind s.width (algebra_of T) v)) (sym c.deref-in-LeftJoin.ensures) ∙ sym c.is_apart.ensures.value ∙ c.if-is_apart.true) in
     let none : mentions e v ≡ false = c.may_mention.ensures.not_mentioned c.if-not-may_mention.true in
     let whole : Algebra → List (Solution Term) = λ A. solutions_in terms s.index.now s.width v graphs A in
-    as_whole terms s.width c.solve_left_join.result (whole (algebra.LeftJoin L C e)) (whole (algebra_of c.args.inner.now))
+    as_whole terms s.width c.solve_paired.result (whole (algebra.LeftJoin L C e)) (whole (algebra_of c.args.inner.now))
     (ap (λ (T : Operator). whole (algebra_of T)) c.in-LeftJoin.is ∙ ap whole (left_join_denotes c.in-LeftJoin.left c.in-LeftJoin.right c.in-LeftJoin.condition))
-    (left_join_each terms s.index.now s.width v graphs c.solve_left_join.result c.requires.index c.requires.variable L c.in-LeftJoin.right.value apart.0 apart.1 now rows
+    (left_join_each terms s.index.now s.width v graphs c.solve_paired.result c.requires.index c.requires.variable L c.in-LeftJoin.right.value apart.0 apart.1 now rows
     (subst (λ (T : Operator). IsEvaluated terms s.width (whole (algebra_of T)) rows now) c.deref-then-not-may_mention.ensures c.in_ok-rows-2.ensures.evaluated) e none
-    (subst (λ (T : Operator). IfOk c.solve_left_join.result (λ x. IsEvaluated now rows.width (left_join term_eq (holds e) (solutions_of now rows) (tree_solutions now s.index.now s.width None T)) x.0 x.1)) c.deref-then-not-may_mention-2.ensures c.solve_left_join.ensures.evaluated))
+    (subst (λ (T : Operator). IfOk c.solve_paired.result (λ x. IsEvaluated now rows.width (left_join term_eq (holds e) (solutions_of now rows) (tree_solutions now s.index.now s.width None T)) x.0 x.1)) c.deref-then-not-may_mention-2.ensures c.solve_paired.ensures.evaluated))
 
 pub solve_outward-returns-then-not-may_mention-clause-needed : goal.solve_outward-returns-then-not-may_mention-clause-needed
 solve_outward-returns-then-not-may_mention-clause-needed g t c =
@@ -1376,19 +1217,19 @@ solve_outward-returns-then-not-may_mention-clause-needed g t c =
     let C = algebra_of c.in-LeftJoin.right.value in
     let e = expression_of c.in-LeftJoin.condition in
     let apart = apart_parts (is_closed C) (may_bind s.width C v) (ap (λ (T : Operator). is_closed (algebra_of T) && not (may_bind s.width (algebra_of T) v)) (sym c.deref-in-LeftJoin.ensures) ∙ sym c.is_apart.ensures.value ∙ c.if-is_apart.true) in
-    takes_as_each terms s.index.now s.width v c.solve_left_join.result (algebra_of c.args.inner.now) (algebra.LeftJoin L C e) (ap algebra_of c.in-LeftJoin.is ∙ left_join_denotes c.in-LeftJoin.left c.in-LeftJoin.right c.in-LeftJoin.condition)
-    (takes_then terms s.index.now s.width v graphs c.requires.graphs c.solve_left_join.result L C now c.in_ok-rows-2.ensures.evaluated.grown c.requires.index c.requires.some apart.0
+    takes_as_each terms s.index.now s.width v c.solve_paired.result (algebra_of c.args.inner.now) (algebra.LeftJoin L C e) (ap algebra_of c.in-LeftJoin.is ∙ left_join_denotes c.in-LeftJoin.left c.in-LeftJoin.right c.in-LeftJoin.condition)
+    (takes_then terms s.index.now s.width v graphs c.requires.graphs c.solve_paired.result L C now c.in_ok-rows-2.ensures.evaluated.grown c.requires.index c.requires.some apart.0
     (subst (λ (T : Operator). TakesOnly (NeededIn terms s.index.now s.width (each_graph v) (algebra_of T)) terms now) c.deref-then-not-may_mention.ensures c.in_ok-rows-2.ensures.needed)
-    (subst (λ (T : Operator). IfOk c.solve_left_join.result (λ x. TakesOnly (Needed now s.index.now s.width None (algebra_of T)) now x.1)) c.deref-then-not-may_mention-2.ensures c.solve_left_join.ensures.needed))
+    (subst (λ (T : Operator). IfOk c.solve_paired.result (λ x. TakesOnly (Needed now s.index.now s.width None (algebra_of T)) now x.1)) c.deref-then-not-may_mention-2.ensures c.solve_paired.ensures.needed))
 
 pub solve_outward-returns-then-not-may_mention-clause-one_worker : goal.solve_outward-returns-then-not-may_mention-clause-one_worker
-solve_outward-returns-then-not-may_mention-clause-one_worker g t c = c.solve_left_join.ensures.one_worker
+solve_outward-returns-then-not-may_mention-clause-one_worker g t c = c.solve_paired.ensures.one_worker
 
-pub solve_outward-solve_minus-requires-clause-index : goal.solve_outward-solve_minus-requires-clause-index
-solve_outward-solve_minus-requires-clause-index g t c κs within = (index_kept c.args.dict c.in_ok-rows-3.dict c.in_ok-rows-3.ensures.evaluated.grown c.args.self.now.index.now c.requires.index).0
+pub solve_outward-solve_paired-requires-then-is_apart-2-clause-index : goal.solve_outward-solve_paired-requires-then-is_apart-2-clause-index
+solve_outward-solve_paired-requires-then-is_apart-2-clause-index g t c κs within = (index_kept c.args.dict c.in_ok-rows-3.dict c.in_ok-rows-3.ensures.evaluated.grown c.args.self.now.index.now c.requires.index).0
 
-pub solve_outward-solve_minus-requires-clause-within : goal.solve_outward-solve_minus-requires-clause-within
-solve_outward-solve_minus-requires-clause-within g t c κs within =
+pub solve_outward-solve_paired-requires-then-is_apart-2-clause-within : goal.solve_outward-solve_paired-requires-then-is_apart-2-clause-within
+solve_outward-solve_paired-requires-then-is_apart-2-clause-within g t c κs within =
     subst (λ (T : Operator). is_within c.args.self.now.width (algebra_of T) ≡ true) (sym c.deref-then-is_apart-2-2.ensures) (minus_within c.args.self.now.width c.in-Minus.left c.in-Minus.right c.args.inner.now c.in-Minus.is c.requires.within).1
 
 pub solve_outward-returns-then-is_apart-2-clause-evaluated : goal.solve_outward-returns-then-is_apart-2-clause-evaluated
@@ -1403,11 +1244,11 @@ solve_outward-returns-then-is_apart-2-clause-evaluated g t c =
     let C = algebra_of c.in-Minus.right.value in
     let apart = apart_parts (is_closed C) (may_bind s.width C v) (ap (λ (T : Operator). is_closed (algebra_of T) && not (may_bind s.width (algebra_of T) v)) (sym c.deref-in-Minus.ensures) ∙ sym c.is_apart-in-Minus.ensures.value ∙ c.if-is_apart-2.true) in
     let whole : Algebra → List (Solution Term) = λ A. solutions_in terms s.index.now s.width v graphs A in
-    as_whole terms s.width c.solve_minus.result (whole (algebra.Minus L C)) (whole (algebra_of c.args.inner.now))
+    as_whole terms s.width c.solve_paired-then-is_apart-2.result (whole (algebra.Minus L C)) (whole (algebra_of c.args.inner.now))
     (ap (λ (T : Operator). whole (algebra_of T)) c.in-Minus.is ∙ ap whole (minus_denotes c.in-Minus.left c.in-Minus.right))
-    (minus_each terms s.index.now s.width v graphs c.solve_minus.result c.requires.index c.requires.variable L c.in-Minus.right.value apart.0 apart.1 now rows
+    (minus_each terms s.index.now s.width v graphs c.solve_paired-then-is_apart-2.result c.requires.index c.requires.variable L c.in-Minus.right.value apart.0 apart.1 now rows
     (subst (λ (T : Operator). IsEvaluated terms s.width (whole (algebra_of T)) rows now) c.deref-then-is_apart-2.ensures c.in_ok-rows-3.ensures.evaluated)
-    (subst (λ (T : Operator). IfOk c.solve_minus.result (λ x. IsEvaluated now rows.width (minus term_eq (solutions_of now rows) (tree_solutions now s.index.now s.width None T)) x.0 x.1)) c.deref-then-is_apart-2-2.ensures c.solve_minus.ensures.evaluated))
+    (subst (λ (T : Operator). IfOk c.solve_paired-then-is_apart-2.result (λ x. IsEvaluated now rows.width (minus term_eq (solutions_of now rows) (tree_solutions now s.index.now s.width None T)) x.0 x.1)) c.deref-then-is_apart-2-2.ensures c.solve_paired-then-is_apart-2.ensures.evaluated))
 
 pub solve_outward-returns-then-is_apart-2-clause-needed : goal.solve_outward-returns-then-is_apart-2-clause-needed
 solve_outward-returns-then-is_apart-2-clause-needed g t c =
@@ -1420,13 +1261,13 @@ solve_outward-returns-then-is_apart-2-clause-needed g t c =
     let L = algebra_of c.in-Minus.left.value in
     let C = algebra_of c.in-Minus.right.value in
     let apart = apart_parts (is_closed C) (may_bind s.width C v) (ap (λ (T : Operator). is_closed (algebra_of T) && not (may_bind s.width (algebra_of T) v)) (sym c.deref-in-Minus.ensures) ∙ sym c.is_apart-in-Minus.ensures.value ∙ c.if-is_apart-2.true) in
-    takes_as_each terms s.index.now s.width v c.solve_minus.result (algebra_of c.args.inner.now) (algebra.Minus L C) (ap algebra_of c.in-Minus.is ∙ minus_denotes c.in-Minus.left c.in-Minus.right)
-    (takes_then terms s.index.now s.width v graphs c.requires.graphs c.solve_minus.result L C now c.in_ok-rows-3.ensures.evaluated.grown c.requires.index c.requires.some apart.0
+    takes_as_each terms s.index.now s.width v c.solve_paired-then-is_apart-2.result (algebra_of c.args.inner.now) (algebra.Minus L C) (ap algebra_of c.in-Minus.is ∙ minus_denotes c.in-Minus.left c.in-Minus.right)
+    (takes_then terms s.index.now s.width v graphs c.requires.graphs c.solve_paired-then-is_apart-2.result L C now c.in_ok-rows-3.ensures.evaluated.grown c.requires.index c.requires.some apart.0
     (subst (λ (T : Operator). TakesOnly (NeededIn terms s.index.now s.width (each_graph v) (algebra_of T)) terms now) c.deref-then-is_apart-2.ensures c.in_ok-rows-3.ensures.needed)
-    (subst (λ (T : Operator). IfOk c.solve_minus.result (λ x. TakesOnly (Needed now s.index.now s.width None (algebra_of T)) now x.1)) c.deref-then-is_apart-2-2.ensures c.solve_minus.ensures.needed))
+    (subst (λ (T : Operator). IfOk c.solve_paired-then-is_apart-2.result (λ x. TakesOnly (Needed now s.index.now s.width None (algebra_of T)) now x.1)) c.deref-then-is_apart-2-2.ensures c.solve_paired-then-is_apart-2.ensures.needed))
 
 pub solve_outward-returns-then-is_apart-2-clause-one_worker : goal.solve_outward-returns-then-is_apart-2-clause-one_worker
-solve_outward-returns-then-is_apart-2-clause-one_worker g t c = c.solve_minus.ensures.one_worker
+solve_outward-returns-then-is_apart-2-clause-one_worker g t c = c.solve_paired-then-is_apart-2.ensures.one_worker
 
 -- ---- Filter and Extend after the names
 
@@ -1442,9 +1283,33 @@ pub solve_expression_outward-returns-then-not-may_mention-2-clause-needed : goal
 solve_expression_outward-returns-then-not-may_mention-2-clause-needed g t c =
     let s = c.args.self.now in
     let e = expression_of c.in-Extend.expression in
-    takes_as_each c.args.dict s.index.now s.width c.args.variable c.solve_each_extend.result (algebra_of c.args.inner.now) (algebra.Extend c.in-Extend.bound e (algebra_of c.deref-then-not-may_mention-2.result.now))
+    let A = algebra_of c.deref-then-not-may_mention-2.result.now in
+    takes_as_each c.args.dict s.index.now s.width c.args.variable c.extend.result (algebra_of c.args.inner.now) (algebra.Extend c.in-Extend.bound e A)
     (ap algebra_of c.in-Extend.is ∙ extend_denotes c.in-Extend.bound c.in-Extend.expression c.in-Extend.below ∙ (λ i. algebra.Extend c.in-Extend.bound e (algebra_of ((sym c.deref-then-not-may_mention-2.ensures) i))))
-    c.solve_each_extend.ensures.needed
+    (takes_each_values c.args.dict s.index.now s.width c.args.variable c.in-Extend.bound e (c.may_mention-then-moves.ensures.not_mentioned c.if-not-may_mention-2.true) A c.args.graphs.now c.requires.graphs c.extend.result
+    c.in_ok-rows.dict c.in_ok-rows.rows c.in_ok-rows.ensures.evaluated c.in_ok-rows.ensures.needed c.extend.ensures.needed)
+
+pub solve_expression_outward-returns-then-not-may_mention-2-clause-evaluated : goal.solve_expression_outward-returns-then-not-may_mention-2-clause-evaluated
+solve_expression_outward-returns-then-not-may_mention-2-clause-evaluated g t c =
+    let s = c.args.self.now in
+    let e = expression_of c.in-Extend.expression in
+    let A = algebra_of c.deref-then-not-may_mention-2.result.now in
+    let another : nat_eq c.in-Extend.bound c.args.variable ≡ false = search rules in
+    let whole : Algebra → List (Solution Term) = λ A. solutions_in c.args.dict s.index.now s.width c.args.variable c.args.graphs.now A in
+    as_whole c.args.dict s.width c.extend.result (whole (algebra.Extend c.in-Extend.bound e A)) (whole (algebra_of c.args.inner.now))
+    (ap whole (ap algebra_of c.in-Extend.is ∙ extend_denotes c.in-Extend.bound c.in-Extend.expression c.in-Extend.below ∙ (λ i. algebra.Extend c.in-Extend.bound e (algebra_of ((sym c.deref-then-not-may_mention-2.ensures) i)))))
+    (extend_each c.args.dict s.index.now s.width c.args.variable c.args.graphs.now c.extend.result c.in-Extend.bound another e A (c.may_mention-then-moves.ensures.not_mentioned c.if-not-may_mention-2.true)
+    c.in_ok-rows.dict c.in_ok-rows.rows c.in_ok-rows.ensures.evaluated c.extend.ensures.evaluated)
+
+pub solve_expression_outward-returns-then-not-may_mention-2-clause-one_worker : goal.solve_expression_outward-returns-then-not-may_mention-2-clause-one_worker
+solve_expression_outward-returns-then-not-may_mention-2-clause-one_worker g t c = c.extend.ensures.one_worker
+
+pub solve_expression_outward-extend-requires-clause-known : goal.solve_expression_outward-extend-requires-clause-known
+solve_expression_outward-extend-requires-clause-known g t c κs within = c.in_ok-rows.ensures.evaluated.known
+
+pub solve_expression_outward-extend-requires-clause-variable : goal.solve_expression_outward-extend-requires-clause-variable
+solve_expression_outward-extend-requires-clause-variable g t c κs within =
+    subst (λ (w : ℕ). c.in-Extend.bound < w) (sym c.in_ok-rows.ensures.evaluated.wide) (extend_below c.args.self.now.width c.in-Extend.bound c.in-Extend.expression c.in-Extend.below c.args.inner.now c.in-Extend.is c.requires.within)
 
 -- ---- equalities after the names
 
