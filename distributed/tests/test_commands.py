@@ -140,6 +140,24 @@ class Forms(unittest.TestCase):
         text = b"".join(b'<a:s%d> <a:p> "%d" .\n' % (dice.randrange(9), dice.randrange(9)) for _ in range(300))
         self.same(text, file(text), sizes=["500", "3KiB"])
 
+    def test_quad_in_two_blocks(self):
+        """With --split lines no quad is in two blocks, in any form, unless the query has DISTINCT."""
+        lines = [b'<a:s%d> <a:p> "x%d" .\n' % (k % 9, k) for k in range(40)]
+        once, again, other = b"".join(lines), lines[7], b'<a:s\\u0037> <a:p>"\\u00787"^^<http://www.w3.org/2001/XMLSchema#string>.'
+        query, distinct = "SELECT * { ?s ?p ?o }", "SELECT DISTINCT ?s { ?s ?p ?o } OFFSET 2"
+        words = ["--split", "lines", "--blocksize"]
+        for text in [once + again, once + other, once + once]:
+            for size, command in [("300", distinct), ("64KiB", distinct), ("64KiB", query)]:
+                with self.subTest(text=text, size=size, query=command):
+                    asked = ["select", "--query", command]
+                    self.assertEqual(spq_dask([*asked, *words, size], file(text)), (*spq(asked, text), ""))
+            status, said, told = spq_dask(["select", "--query", query, *words, "300"], file(text))
+            self.assertEqual((status, said), (3, b"error: command line\n"))
+            self.assertRegex(told, "^spq-dask: a quad is in two blocks")
+        parts = [once[: once.index(lines[20])] + lines[3], once[once.index(lines[20]) :] + lines[30]]  # again, but in its own block
+        asked = ["select", "--query", query]
+        self.assertEqual(spq_dask([*asked, *words, "1KiB"], *map(file, parts)), (*spq(asked, b"".join(parts)), ""))
+
     def test_large_block(self):
         """A block of more than 8 MiB, with and without a malformed last line."""
         text = b"".join(b'<a:s%d> <a:p> "%d" <a:g%d> .\n' % (k, k % 9, k % 5) for k in range(300_000))

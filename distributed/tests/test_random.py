@@ -16,7 +16,8 @@ def compare(seed: int) -> tuple[str, str]:
     for attempt in range(8):
         dice = random.Random(f"random:{seed}:{attempt}")
         options, statements, query = documents.case(dice)
-        text = documents.document(dice, statements, options != ["--split", "lines"], dice.choice([["\n"], ["\n", "\r\n", "\r"]]))
+        repeats = options != ["--split", "lines"] or "DISTINCT" in query
+        text = documents.document(dice, statements, repeats, dice.choice([["\n"], ["\n", "\r\n", "\r"]]))
         if dice.randrange(10) == 0:
             text += dice.choice([b"\nx", b"\rx\n", b"\n<a:b>\r\n"])
         status, said = spq(["select", "--query", query], text)
