@@ -15,11 +15,11 @@ use Rattle.malformed_lines.proofs.MalformedLaws.{after_all, numbers_join, number
 use Rattle.malformed_lines.proofs.TallyLaws.{singles_join}
 
 -- the first lines are copied
-pub record IsKeptUpTo (before : ℕ) (found : List FoundLine) (old new : List MalformedLine) (i : ℕ) : Type 0 where
+pub record IsKeptUpTo (before : ℕ) (piece : PieceList) (old new : List MalformedLine) (i : ℕ) : Type 0 where
   pub copies : List MalformedLine
   pub added : new ≡ old ++ copies
   pub count : length copies ≡ i
-  pub each : AllZip (IsCopy before) (take i found) copies
+  pub each : AllZip (IsCopy before piece) (take i piece.shown.items) copies
   pub few : (length new ≤ most_shown) ⊎ (new ≡ old)
 
 zipped_push : {A B : Type 0} (R : A → B → Type 0) (xs : List A) (ys : List B) (x : A) (y : B) → AllZip R xs ys → R x y → AllZip R (xs ++ x ∷ []) (ys ++ y ∷ [])
@@ -35,37 +35,38 @@ length_zipped R (x ∷ xs) [] h = absurd h
 length_zipped R (x ∷ xs) (y ∷ ys) h = ap suc (length_zipped R xs ys h.1)
 
 -- one more line is copied
-pub kept_more : (before : ℕ) (found : List FoundLine) (old new new' : List MalformedLine) (i : ℕ) (d : FoundLine) (s : MalformedLine)
-    → IsKeptUpTo before found old new i → i < length found → length new < most_shown → IsCopy before (get_or found i d) s → new' ≡ new ++ s ∷ []
-    → IsKeptUpTo before found old new' (i + 1)
-kept_more before found old new new' i d s h l room copy e = record {
+pub kept_more : (before : ℕ) (piece : PieceList) (old new new' : List MalformedLine) (i : ℕ) (d : FoundLine) (s : MalformedLine)
+    → IsKeptUpTo before piece old new i → i < length piece.shown.items → length new < most_shown → IsCopy before piece (get_or piece.shown.items i d) s
+    → new' ≡ new ++ s ∷ [] → IsKeptUpTo before piece old new' (i + 1)
+kept_more before piece old new new' i d s h l room copy e = record {
   copies = h.copies ++ s ∷ [];
   added = e ∙ ap (λ (y : List MalformedLine). y ++ s ∷ []) h.added ∙ append_assoc old h.copies (s ∷ []);
   count = omega (arith, length-append h.copies (s ∷ []), h.count);
-  each = subst (λ (y : List FoundLine). AllZip (IsCopy before) y (h.copies ++ s ∷ [])) (sym (take_more found i d l)) (zipped_push (IsCopy before) (take i found) h.copies (get_or found i d) s h.each copy);
+  each = subst (λ (y : List FoundLine). AllZip (IsCopy before piece) y (h.copies ++ s ∷ [])) (sym (take_more piece.shown.items i d l))
+      (zipped_push (IsCopy before piece) (take i piece.shown.items) h.copies (get_or piece.shown.items i d) s h.each copy);
   few = inl (omega (arith, ap length e, length-append new (s ∷ []), room));
 }
 
 -- all lines are copied
-pub kept_all : (before : ℕ) (found : List FoundLine) (old new : List MalformedLine) (i : ℕ) → IsKeptUpTo before found old new i
-    → (length found ≡ i) ⊎ (most_shown ≤ length new) → AreKept before found old new
-kept_all before found old new i h e = record {
+pub kept_all : (before : ℕ) (piece : PieceList) (old new : List MalformedLine) (i : ℕ) → IsKeptUpTo before piece old new i
+    → (length piece.shown.items ≡ i) ⊎ (most_shown ≤ length new) → AreKept before piece old new
+kept_all before piece old new i h e = record {
   copies = h.copies;
   added = h.added;
-  each = subst (λ (n : ℕ). AllZip (IsCopy before) (take n found) h.copies) (sym h.count) h.each;
-  all = elim e as (λ _. (length h.copies ≡ length found) ⊎ (most_shown ≤ length new)) [ inl a ↦ inl (h.count ∙ sym a) | inr b ↦ inr b ];
+  each = subst (λ (n : ℕ). AllZip (IsCopy before piece) (take n piece.shown.items) h.copies) (sym h.count) h.each;
+  all = elim e as (λ _. (length h.copies ≡ length piece.shown.items) ⊎ (most_shown ≤ length new)) [ inl a ↦ inl (h.count ∙ sym a) | inr b ↦ inr b ];
   few = h.few;
 }
 
 -- the numbers of copies
-copied_numbers : (before : ℕ) (found : List FoundLine) (copies : List MalformedLine) → AllZip (IsCopy before) found copies
+copied_numbers : (before : ℕ) (piece : PieceList) (found : List FoundLine) (copies : List MalformedLine) → AllZip (IsCopy before piece) found copies
     → map (λ s. s.number) copies ≡ map (λ k. (before + 1) + k) (map (λ f. f.place) found)
-copied_numbers before [] [] h = refl
-copied_numbers before [] (s ∷ copies) h = absurd h
-copied_numbers before (f ∷ found) [] h = absurd h
-copied_numbers before (f ∷ found) (s ∷ copies) h =
+copied_numbers before piece [] [] h = refl
+copied_numbers before piece [] (s ∷ copies) h = absurd h
+copied_numbers before piece (f ∷ found) [] h = absurd h
+copied_numbers before piece (f ∷ found) (s ∷ copies) h =
     let n : s.number ≡ (before + 1) + f.place = omega (arith, h.0.number) in
-    ap (λ (y : ℕ). y ∷ map (λ s. s.number) copies) n ∙ ap (λ (y : List ℕ). ((before + 1) + f.place) ∷ y) (copied_numbers before found copies h.1)
+    ap (λ (y : ℕ). y ∷ map (λ s. s.number) copies) n ∙ ap (λ (y : List ℕ). ((before + 1) + f.place) ∷ y) (copied_numbers before piece found copies h.1)
 
 -- both have all of a list, or as many of its elements
 enough : (y : List ℕ) (c n : ℕ) → (c ≡ n) ⊎ (length y ≤ c) → c ≤ n → take c y ≡ take n y
@@ -108,12 +109,12 @@ all_taken P (suc c) [] h = λ k d l. absurd (omega arith)
 all_taken P (suc c) (x ∷ xs) h = All-append P (x ∷ []) (take c xs) (single P x (h 0 x (omega arith))) (all_taken P c xs (λ k d l. h (suc k) d (omega (arith, l))))
 
 -- copies of lines of a piece are lines of the document
-all_copies : (before after : List (List ℕ)) (n : ℕ) (found : List FoundLine) (copies : List MalformedLine) → n ≡ length before → AllZip (IsCopy n) found copies
+all_copies : (before after : List (List ℕ)) (n : ℕ) (piece : PieceList) (found : List FoundLine) (copies : List MalformedLine) → n ≡ length before → AllZip (IsCopy n piece) found copies
     → All (IsFound after) found → All (IsShown (before ++ after)) copies
-all_copies before after n [] [] e z h = λ k d l. absurd (omega arith)
-all_copies before after n [] (s ∷ copies) e z h = absurd z
-all_copies before after n (f ∷ found) [] e z h = absurd z
-all_copies before after n (f ∷ found) (s ∷ copies) e z h =
+all_copies before after n piece [] [] e z h = λ k d l. absurd (omega arith)
+all_copies before after n piece [] (s ∷ copies) e z h = absurd z
+all_copies before after n piece (f ∷ found) [] e z h = absurd z
+all_copies before after n piece (f ∷ found) (s ∷ copies) e z h =
     let one : IsShown (before ++ after) s = record {
       place = length before + f.place;
       number = omega (arith, z.0.number, e);
@@ -121,7 +122,7 @@ all_copies before after n (f ∷ found) (s ∷ copies) e z h =
       at_place = after_all before after f.place f.bytes.now (h 0 f (omega arith));
       kept = z.0.kept;
     } in
-    All-append (IsShown (before ++ after)) (s ∷ []) copies (single (IsShown (before ++ after)) s one) (all_copies before after n found copies e z.1 (λ k d l. h (suc k) d (omega (arith, l))))
+    All-append (IsShown (before ++ after)) (s ∷ []) copies (single (IsShown (before ++ after)) s one) (all_copies before after n piece found copies e z.1 (λ k d l. h (suc k) d (omega (arith, l))))
 
 still_shown : (a b : List (List ℕ)) (shown : List MalformedLine) → All (IsShown a) shown → All (IsShown (a ++ b)) shown
 still_shown a b shown h = λ k d l. let s = h k d l in record {
@@ -134,7 +135,7 @@ still_shown a b shown h = λ k d l. let s = h k d l in record {
 
 -- the list of a piece, added to that of the lines before
 pub doc_join : (before after : List (List ℕ)) (old new : MalformedLines) (piece : PieceList) (h : IsListed before old) (p : IsListOf after piece)
-    → AreKept old.lines piece.shown.items old.shown.items new.shown.items → NameLinesFrom 1 (before ++ after) new.reasons.counts.items
+    → AreKept old.lines piece old.shown.items new.shown.items → NameLinesFrom 1 (before ++ after) new.reasons.counts.items
     → IsTally (h.singles ++ map (moved old.lines) p.singles) new.reasons.counts.items
     → new.total ≡ old.total + piece.total → new.lines ≡ old.lines + piece.lines → IsListed (before ++ after) new
 doc_join before after old new piece h p k names tally t n =
@@ -146,14 +147,14 @@ doc_join before after old new piece h p k names tally t n =
     let front : map number old.shown.items ≡ take most_shown h.numbers = h.shown in
     let piece_shown : map later (map place piece.shown.items) ≡ take most_shown y = ap (map later) p.shown ∙ sym (take-map later most_shown p.places) in
     let back : map number k.copies ≡ take c (take most_shown y) =
-    copied_numbers old.lines (take c piece.shown.items) k.copies k.each
+    copied_numbers old.lines piece (take c piece.shown.items) k.copies k.each
     ∙ ap (map later) (sym (take-map place c piece.shown.items))
     ∙ sym (take-map later c (map place piece.shown.items))
     ∙ ap (take c) piece_shown in
     let many : length piece.shown.items ≡ length (take most_shown y) = sym (length-map piece.shown.items place) ∙ sym (length-map (map place piece.shown.items) later) ∙ ap length piece_shown in
     let old_many : length old.shown.items ≡ length (take most_shown h.numbers) = sym (length-map old.shown.items number) ∙ ap length front in
     let new_many : length new.shown.items ≡ length old.shown.items + c = ap length k.added ∙ length-append old.shown.items k.copies in
-    let taken : length (take c piece.shown.items) ≡ c = length_zipped (IsCopy old.lines) (take c piece.shown.items) k.copies k.each in
+    let taken : length (take c piece.shown.items) ≡ c = length_zipped (IsCopy old.lines piece) (take c piece.shown.items) k.copies k.each in
     let short : c ≤ length (take most_shown y) = omega (arith, taken, length-take c piece.shown.items, many) in
     let x_few = length-take most_shown h.numbers in
     let few : length (take most_shown h.numbers) + c ≤ most_shown = elim k.few as (λ _. length (take most_shown h.numbers) + c ≤ most_shown) [
@@ -169,7 +170,7 @@ doc_join before after old new piece h p k names tally t n =
       numbers = h.numbers ++ y;
       malformed = numbers_join 1 before after h.numbers y h.malformed (subst (λ (m : ℕ). AreMalformedFrom m after y) (sym first) (numbers_from (old.lines + 1) 0 after p.places p.malformed));
       shown = ap (map number) k.added ∙ map-append number old.shown.items k.copies ∙ ap (λ (z : List ℕ). z ++ map number k.copies) front ∙ ap (λ (z : List ℕ). take most_shown h.numbers ++ z) back ∙ shown_join h.numbers y c all few short;
-      each = subst (λ (z : List MalformedLine). All (IsShown (before ++ after)) z) (sym k.added) (All-append (IsShown (before ++ after)) old.shown.items k.copies (still_shown before after old.shown.items h.each) (all_copies before after old.lines (take c piece.shown.items) k.copies h.count k.each (all_taken (IsFound after) c piece.shown.items p.found)));
+      each = subst (λ (z : List MalformedLine). All (IsShown (before ++ after)) z) (sym k.added) (All-append (IsShown (before ++ after)) old.shown.items k.copies (still_shown before after old.shown.items h.each) (all_copies before after old.lines piece (take c piece.shown.items) k.copies h.count k.each (all_taken (IsFound after) c piece.shown.items p.found)));
       named = names;
       singles = h.singles ++ map (moved old.lines) p.singles;
       one_each = singles_join old.lines before after h.numbers p.places h.singles p.singles h.count h.one_each p.one_each;

@@ -180,6 +180,24 @@ all_listed list rest all h e =
     let whole : lines all ≡ h.before = h.parts ∙ ap (λ (y : List (List ℕ)). h.before ++ y) (ap lines e ∙ lines_nil) ∙ append-nil h.before in
     subst (λ (y : List (List ℕ)). IsListOf y list) (sym whole) h.listed
 
+-- whether the piece ends inside of a line changes nothing else
+pub still_listed : (all : List (List ℕ)) (old new : PieceList) → IsListOf all old → new.shown ≡ old.shown
+    → new.reasons.counts.items ≡ old.reasons.counts.items → new.total ≡ old.total → new.lines ≡ old.lines → IsListOf all new
+still_listed all old new h s r t n =
+    let i : new.shown.items ≡ old.shown.items = ap (λ (v : Vec FoundLine Global). v.items) s in
+    record {
+      places = h.places;
+      malformed = h.malformed;
+      shown = ap (map (λ (f : FoundLine). f.place)) i ∙ h.shown;
+      found = subst (λ (y : List FoundLine). All (IsFound all) y) (sym i) h.found;
+      named = subst (NameLinesFrom 0 all) (sym r) h.named;
+      singles = h.singles;
+      one_each = h.one_each;
+      tally = subst (IsTally h.singles) (sym r) h.tally;
+      total = t ∙ h.total;
+      count = n ∙ h.count;
+    }
+
 -- the plain lines at the front are listed
 pub plain_listed : (list : PieceList) (count : ℕ) (rest all : List ℕ) (quads : List QuadParts) → AreLinesBefore quads count rest all
     → ((before : List (List ℕ)) (quads : List QuadParts) → HaveStatements before quads → length before ≡ count → IsListOf before list)

@@ -1,6 +1,6 @@
 -- The malformed lines of a document (RDF 1.1 N-Quads, grammar). That they are listed, and how many, is a choice of this
 -- project.
-use Rattle.std.specs.Prelude.{◌≡◌, ◌⊎◌, ◌++◌, ℕ, ◌+◌, ◌<◌, ◌≤◌, List, [], ◌∷◌, length, map, take, nat_le, Option, Some}
+use Rattle.std.specs.Prelude.{◌≡◌, ◌⊎◌, ◌++◌, ℕ, ◌+◌, ◌<◌, ◌≤◌, ◌==◌, ◌&&◌, List, [], ◌∷◌, length, map, take, nat_le, Option, Some}
 use Rattle.std.specs.List.{All, AllZip, slice_get}
 use Rattle.rdf_core.specs.QuadParts.{QuadParts}
 use Rattle.nquads_core.specs.Grammar.{HasStatement, IsMalformed}
@@ -34,6 +34,16 @@ AreMalformed lines numbers = AreMalformedFrom 1 lines numbers
 -- the line of this place, counted from 0
 abbrev pub IsFound : List (List ℕ) → FoundLine → Type 0
 IsFound lines found = slice_get lines found.place ≡ Some found.bytes.now
+
+-- The last byte of a text is this one.
+abbrev pub EndsWith : ℕ → List ℕ → Type 0
+EndsWith last bytes = (front : List ℕ) × (bytes ≡ front ++ last ∷ [])
+
+-- A text ends inside of a line: its last line has no line end (RDF 1.1 N-Quads, EOL).
+pub record EndsInside (bytes : List ℕ) : Type 0 where
+  pub some : bytes ≡ [] → ⊥
+  pub no_line_feed : EndsWith 10 bytes → ⊥
+  pub no_carriage_return : EndsWith 13 bytes → ⊥
 
 -- One count for each malformed line, in order. These are the numbers of the lines, from n on.
 pub record AreSingles (n : ℕ) (lines : List (List ℕ)) (numbers : List ℕ) (singles : List ReasonCount) : Type 0 where
@@ -82,18 +92,19 @@ pub record IsListed (lines : List (List ℕ)) (list : MalformedLines) : Type 0 w
   pub total : list.total ≡ length numbers
   pub count : list.lines ≡ length lines
 
--- the line of a document that a malformed line of a piece is, if this many lines are before the piece
-pub record IsCopy (before : ℕ) (found : FoundLine) (shown : MalformedLine) : Type 0 where
+-- The line of a document that a malformed line of a piece is, if this many lines are before the piece. It is cut if it is the
+-- last line of the piece and has no line end.
+pub record IsCopy (before : ℕ) (piece : PieceList) (found : FoundLine) (shown : MalformedLine) : Type 0 where
   pub number : shown.number ≡ before + (found.place + 1)
   pub kept : IsKeptOf found.bytes.now shown
-  pub cut : shown.is_cut ≡ found.is_cut
+  pub cut : shown.is_cut ≡ piece.is_open && (found.place + 1) == piece.lines
 
--- copies of the first of these lines come after the others, until twenty are kept
-pub record AreKept (before : ℕ) (found : List FoundLine) (old new : List MalformedLine) : Type 0 where
+-- copies of the first malformed lines of a piece come after the others, until twenty are kept
+pub record AreKept (before : ℕ) (piece : PieceList) (old new : List MalformedLine) : Type 0 where
   pub copies : List MalformedLine
   pub added : new ≡ old ++ copies
-  pub each : AllZip (IsCopy before) (take (length copies) found) copies
-  pub all : (length copies ≡ length found) ⊎ (most_shown ≤ length new)
+  pub each : AllZip (IsCopy before piece) (take (length copies) piece.shown.items) copies
+  pub all : (length copies ≡ length piece.shown.items) ⊎ (most_shown ≤ length new)
   pub few : (length new ≤ most_shown) ⊎ (new ≡ old)
 
 -- Words that only private clauses cite.

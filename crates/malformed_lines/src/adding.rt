@@ -24,15 +24,20 @@ fn beginning(line: &[u8], most: usize) -> &[u8]
 }
 
 /// Copies a malformed line of a piece. `before` is the number of lines before the piece.
-fn copied(alloc: Global, before: u128, found: &FoundLine<'_>) -> Result<MalformedLine, AllocError>
+fn copied(
+    alloc: Global,
+    before: u128,
+    piece: &PieceList<'_>,
+    found: &FoundLine<'_>,
+) -> Result<MalformedLine, AllocError>
     requires countable { before ≤ 2 ^ 127 }
-    ensures copy { IfOk result (IsCopy before found.now) }
+    ensures copy { IfOk result (IsCopy before piece.now found.now) }
 {
     Ok(MalformedLine {
         number: before + (found.place as u128 + 1),
         bytes: Vec::from_slice(alloc, beginning(found.bytes, MOST_KEPT))?,
         is_whole: found.bytes.len() <= MOST_KEPT,
-        is_cut: found.is_cut,
+        is_cut: piece.is_open && found.place as u128 + 1 == piece.lines as u128,
     })
 }
 
@@ -41,16 +46,16 @@ fn keep_all(
     alloc: Global,
     shown: &mut Vec<MalformedLine>,
     before: u128,
-    found: &[FoundLine<'_>],
+    piece: &PieceList<'_>,
 ) -> Result<(), AllocError>
     requires countable { before ≤ 2 ^ 127 }
-    ensures kept { OnOk result (AreKept before found.now shown.old.items shown.new.items) }
+    ensures kept { OnOk result (AreKept before piece.now shown.old.items shown.new.items) }
 {
-    for line in found {
+    for line in piece.shown.as_slice() {
         if shown.len() >= MOST_SHOWN {
             return Ok(());
         }
-        shown.push(copied(alloc, before, line)?)?;
+        shown.push(copied(alloc, before, piece, line)?)?;
     }
     Ok(())
 }
@@ -82,12 +87,12 @@ impl MalformedLines {
         requires countable { self.old.lines ≤ 2 ^ 127 }
         ensures listed { OnOk result ((before after : List (List ℕ)) → IsListed before self.old
             → IsListOf after piece.now → IsListed (before ++ after) self.new) }
-        ensures copied { OnOk result (AreKept self.old.lines piece.now.shown.items
+        ensures copied { OnOk result (AreKept self.old.lines piece.now
             self.old.shown.items self.new.shown.items) }
         ensures lines { OnOk result (self.new.lines ≤ self.old.lines + (2 ^ 64 - 1)) }
     {
         let (before, lines, total) = (self.lines, piece.lines, piece.total);
-        keep_all(alloc, &mut self.shown, before, piece.shown.as_slice())?;
+        keep_all(alloc, &mut self.shown, before, piece)?;
         self.reasons
             .add_all(before, piece.reasons.counts.as_slice())?;
         self.lines += lines as u128;

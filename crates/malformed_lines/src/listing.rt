@@ -1,11 +1,11 @@
 //! Listing the malformed lines of a piece.
-ghost use Rattle.std.specs.Prelude.{◌≡◌, ◌+◌, ◌≤◌, ◌<◌, ◌∷◌, ◌++◌, ◌^◌, [], List, ℕ, length, IfOk, OnOk};
+ghost use Rattle.std.specs.Prelude.{◌≡◌, ◌+◌, ◌≤◌, ◌<◌, ◌∷◌, ◌++◌, ◌^◌, [], List, ℕ, length, true, IfOk, OnOk};
 ghost use Rattle.rdf_core.specs.QuadParts.{QuadParts};
 ghost use Rattle.nquads_core.specs.Grammar.{IsMalformed};
 ghost use Rattle.line_diagnosis.specs.Explained.{IsExplained};
 ghost use Rattle.nquads_core.specs.Lines.{lines};
 ghost use Rattle.nquads_core.specs.Pieces.{HaveStatements};
-ghost use Rattle.malformed_lines.specs.Malformed.{IsKept, IsListOf};
+ghost use Rattle.malformed_lines.specs.Malformed.{EndsInside, EndsWith, IsKept, IsListOf};
 
 use crate::piece_list::{FoundLine, MOST_SHOWN, PieceList};
 use crate::reason_counts::{ReasonCount, ReasonCounts};
@@ -22,20 +22,11 @@ const LEAST_BLOCK: usize = 1 << 12;
 const MOST_BLOCK: usize = 1 << 16;
 
 /// Keeps a malformed line, unless twenty are kept.
-fn keep<'d>(
-    shown: &mut Vec<FoundLine<'d>>,
-    place: u64,
-    bytes: &'d [u8],
-    is_cut: bool,
-) -> Result<(), AllocError>
+fn keep<'d>(shown: &mut Vec<FoundLine<'d>>, place: u64, bytes: &'d [u8]) -> Result<(), AllocError>
     ensures kept { OnOk result (IsKept shown.old.items place bytes.now shown.new.items) }
 {
     if shown.len() < MOST_SHOWN {
-        shown.push(FoundLine {
-            place,
-            bytes,
-            is_cut,
-        })?;
+        shown.push(FoundLine { place, bytes })?;
     }
     Ok(())
 }
@@ -52,6 +43,7 @@ impl<'d> PieceList<'d> {
             total: 0,
             reasons: ReasonCounts::new(alloc),
             lines,
+            is_open: false,
         }
     }
 
@@ -66,19 +58,14 @@ impl<'d> PieceList<'d> {
     }
 
     /// Adds a malformed line.
-    fn add_malformed(
-        &mut self,
-        line: &'d [u8],
-        is_cut: bool,
-        diagnosis: &Diagnosis,
-    ) -> Result<(), AllocError>
+    fn add_malformed(&mut self, line: &'d [u8], diagnosis: &Diagnosis) -> Result<(), AllocError>
         requires few { self.old.lines < 2 ^ 63 }
         ensures listed { OnOk result ((before : List (List ℕ)) → IsListOf before self.old
             → IsMalformed line.now → IsExplained line.now diagnosis.now
             → IsListOf (before ++ line.now ∷ []) self.new) }
         ensures lines { OnOk result (self.new.lines ≡ self.old.lines + 1) }
     {
-        keep(&mut self.shown, self.lines, line, is_cut)?;
+        keep(&mut self.shown, self.lines, line)?;
         self.reasons.add(ReasonCount {
             reason: diagnosis.reason.summary(),
             count: 1,
@@ -96,7 +83,6 @@ impl<'d> PieceList<'d> {
         &mut self,
         alloc: Global,
         line: &'d [u8],
-        is_cut: bool,
         form: &mut Vec<u8>,
     ) -> Result<(), AllocError>
         requires few { self.old.lines < 2 ^ 63 }
@@ -109,13 +95,31 @@ impl<'d> PieceList<'d> {
             return Ok(());
         }
         match diagnose(line) {
-            Some(diagnosis) => self.add_malformed(line, is_cut, &diagnosis),
+            Some(diagnosis) => self.add_malformed(line, &diagnosis),
             None => {
                 self.lines += 1;
                 Ok(())
             }
         }
     }
+}
+
+fn ends_with(bytes: &[u8], last: u8) -> bool
+    ensures yes { result ≡ true → EndsWith last bytes.now }
+    ensures no { EndsWith last bytes.now → result ≡ true }
+{
+    if bytes.is_empty() {
+        return false;
+    }
+    bytes[bytes.len() - 1] == last
+}
+
+/// Returns whether a text ends inside of a line: whether a last line has no line end.
+fn ends_inside(bytes: &[u8]) -> bool
+    ensures yes { result ≡ true → EndsInside bytes.now }
+    ensures no { EndsInside bytes.now → result ≡ true }
+{
+    !bytes.is_empty() && !ends_with(bytes, b'\n') && !ends_with(bytes, b'\r')
 }
 
 /// Lists the malformed lines of a piece of a document: the first twenty, how many there are, and how many for each
@@ -128,6 +132,8 @@ impl<'d> PieceList<'d> {
 /// `AllocError` if an allocation fails.
 pub fn list_piece(alloc: Global, bytes: &[u8]) -> Result<PieceList<'_>, AllocError>
     ensures listed { IfOk result (IsListOf (lines bytes.now)) }
+    ensures open { IfOk result (λ list. list.is_open ≡ true → EndsInside bytes.now) }
+    ensures closed { IfOk result (λ list. EndsInside bytes.now → list.is_open ≡ true) }
 {
     let (plain, mut rest) = skip_plain_lines(bytes);
     let mut list = PieceList::after(alloc, plain);
@@ -146,7 +152,7 @@ pub fn list_piece(alloc: Global, bytes: &[u8]) -> Result<PieceList<'_>, AllocErr
         }
         let (line, after) = first_line(rest);
         let before = list.total;
-        list.add_line(alloc, line, line.len() == rest.len(), &mut form)?;
+        list.add_line(alloc, line, &mut form)?;
         run = if list.total == before {
             run.saturating_add(line.len())
         } else {
@@ -154,5 +160,6 @@ pub fn list_piece(alloc: Global, bytes: &[u8]) -> Result<PieceList<'_>, AllocErr
         };
         rest = after;
     }
+    list.is_open = ends_inside(bytes);
     Ok(list)
 }

@@ -14,8 +14,6 @@ pub struct FoundLine<'d> {
     pub place: u64,
     /// Its bytes, without its line end.
     pub bytes: &'d [u8],
-    /// Whether the piece ends with these bytes, and no line end follows them.
-    pub is_cut: bool,
 }
 
 /// The malformed lines of a piece.
@@ -29,6 +27,8 @@ pub struct PieceList<'d> {
     pub reasons: ReasonCounts,
     /// The number of lines of the piece, the well-formed ones included.
     pub lines: u64,
+    /// Whether the piece ends inside of a line: no line end follows its last line.
+    pub is_open: bool,
     ghost counted: { total_of reasons.counts.items ≡ total },
     ghost few: { total ≤ lines },
 }

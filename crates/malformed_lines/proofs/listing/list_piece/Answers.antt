@@ -1,13 +1,14 @@
-use Rattle.std.proofs.Common.{sym}
+use Rattle.std.proofs.Common.{refl, sym}
 use Rattle.std.proofs.lemmas.List.{nil_from_length}
 use Rattle.std.proofs.lemmas.Bool.{eqb-true}
-use Rattle.malformed_lines.proofs.ListSteps.{all_listed, block_more, one_more, plain_listed}
+use Rattle.nquads_core.specs.Lines.{lines}
+use Rattle.malformed_lines.proofs.ListSteps.{all_listed, block_more, one_more, plain_listed, still_listed}
 use Rattle.malformed_lines.proofs.listing.list_piece.Goals as goal
 
-pub returns : goal.returns
-returns c = record {
-  listed = all_listed c.loop-rest.list c.loop-rest.rest.now c.args.bytes.now c.loop-rest.invariant (nil_from_length c.loop-rest.rest.now (eqb-true _ _ (sym c.loop-rest-test.ensures)));
-}
+pub returns-clause-listed : goal.returns-clause-listed
+returns-clause-listed c = still_listed (lines c.args.bytes.now) c.loop-rest.list _
+    (all_listed c.loop-rest.list c.loop-rest.rest.now c.args.bytes.now c.loop-rest.invariant (nil_from_length c.loop-rest.rest.now (eqb-true _ _ (sym c.loop-rest-test.ensures))))
+    refl refl refl refl
 
 pub loop-rest-init : goal.loop-rest-init
 loop-rest-init c =

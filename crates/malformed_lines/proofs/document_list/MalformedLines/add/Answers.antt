@@ -1,6 +1,5 @@
 use Rattle.std.proofs.Common.{ap, arith, refl, subst, sym}
 use Rattle.malformed_lines.specs.Counts.{IsTally, NameLinesFrom, total_of}
-use Rattle.malformed_lines.specs.Malformed.{AreKept}
 use Rattle.malformed_lines.proofs.AddingSteps.{doc_join}
 use Rattle.malformed_lines.proofs.CountLaws.{named_still, named_within}
 use Rattle.malformed_lines.proofs.TallyLaws.{tally_join}
@@ -8,17 +7,16 @@ use Rattle.malformed_lines.proofs.document_list.MalformedLines.add.Goals as goal
 
 pub add_all-requires : goal.add_all-requires
 add_all-requires c = record {
-  countable = omega (arith, ap total_of c.as_slice-2.ensures.value, c.args.self.now.counted, c.args.piece.now.counted, c.args.self.now.few, c.requires.countable);
+  countable = omega (arith, ap total_of c.as_slice.ensures.value, c.args.self.now.counted, c.args.piece.now.counted, c.args.self.now.few, c.requires.countable);
 }
 
 pub returns-clause-copied : goal.returns-clause-copied
-returns-clause-copied c = subst (λ f. AreKept c.args.self.now.lines f c.args.self.now.shown.items c.keep_all.new.shown.items) c.as_slice.ensures.value c.in_ok-keep_all.ensures.kept
+returns-clause-copied c = c.in_ok-keep_all.ensures.kept
 
 pub returns-clause-listed : goal.returns-clause-listed
 returns-clause-listed c = λ before after h p.
-    let kept = subst (λ f. AreKept c.args.self.now.lines f c.args.self.now.shown.items c.keep_all.new.shown.items) c.as_slice.ensures.value c.in_ok-keep_all.ensures.kept in
-    let names = c.in_ok-add_all.ensures.named before after h.count (omega (arith, h.count, p.count, c.requires.countable)) (named_still 1 before after _ h.named) (subst (NameLinesFrom 0 after) (sym c.as_slice-2.ensures.value) p.named) in
-    let more = subst (NameLinesFrom 0 after) (sym c.as_slice-2.ensures.value) p.named in
-    let tally = tally_join c.args.self.now.lines h.singles p.singles c.args.self.now.reasons.counts.items c.as_slice-2.result.now _ h.tally (subst (IsTally p.singles) (sym c.as_slice-2.ensures.value) p.tally)
+    let names = c.in_ok-add_all.ensures.named before after h.count (omega (arith, h.count, p.count, c.requires.countable)) (named_still 1 before after _ h.named) (subst (NameLinesFrom 0 after) (sym c.as_slice.ensures.value) p.named) in
+    let more = subst (NameLinesFrom 0 after) (sym c.as_slice.ensures.value) p.named in
+    let tally = tally_join c.args.self.now.lines h.singles p.singles c.args.self.now.reasons.counts.items c.as_slice.result.now _ h.tally (subst (IsTally p.singles) (sym c.as_slice.ensures.value) p.tally)
     c.in_ok-add_all.ensures.sums (λ x a b. c.in_ok-add_all.ensures.firsts x (λ k d l. omega (arith, named_within after _ (more k d l), h.count, p.count, c.requires.countable)) a b) c.in_ok-add_all.ensures.complete in
-    doc_join before after c.args.self.now _ c.args.piece.now h p kept names tally refl refl
+    doc_join before after c.args.self.now _ c.args.piece.now h p c.in_ok-keep_all.ensures.kept names tally refl refl
