@@ -6,7 +6,7 @@ ghost use Rattle.algebra_model.specs.Solve.{bind_pattern_term};
 ghost use Rattle.row_pattern.specs.Places.{place_term, put_at};
 
 /// Where a row has the value of one position of a triple pattern.
-#[derive(Clone, Copy, Debug)]
+#[derive(Clone, Copy)]
 pub(crate) enum Place {
     /// The cell of a variable, or of a label. Labels follow the variables.
     Cell(usize),
@@ -15,7 +15,7 @@ pub(crate) enum Place {
 }
 
 /// What a place held before it was bound, and whether it has the number after the binding.
-#[derive(Clone, Copy, Debug)]
+#[derive(Clone, Copy)]
 pub(crate) struct Binding {
     pub held: Option<u64>,
     pub fits: bool,

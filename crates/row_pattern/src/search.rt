@@ -17,7 +17,7 @@ use std::alloc::AllocError;
 
 /// What the places of a step held before they were bound to a quad, and whether each then has the
 /// quad's number.
-#[derive(Clone, Copy, Debug)]
+#[derive(Clone, Copy)]
 pub(crate) struct StepBinding {
     pub subject: Option<u64>,
     pub predicate: Option<u64>,

@@ -16,7 +16,7 @@ use std::alloc::{AllocError, Global};
 const COMPARED: usize = 256;
 
 /// A triple pattern. In a row, the places of its labels follow those of the variables.
-#[derive(Clone, Copy, Debug)]
+#[derive(Clone, Copy)]
 pub(crate) struct Step {
     pub subject: Place,
     pub predicate: Place,
