@@ -1,4 +1,4 @@
--- What the law of this crate says.
+-- What the laws of this crate say.
 use Rattle.std.specs.Prelude.{◌≡◌, ℕ, true, List, ◌∷◌, Option, map, unwrap_or}
 use Rattle.rdf_core.specs.QuadParts.{QuadParts}
 use Rattle.algebra_model.specs.Bag.{IsSameSet}
@@ -7,6 +7,7 @@ use Rattle.sparql_tree.specs.QueryTree.{QueryTree}
 use Rattle.spq_core.specs.Outcome.{rows}
 use Rattle.row_merge.specs.Merged.{IsEnough, merged}
 use Rattle.query_split.specs.declared.split.Split.{Split}
+use Rattle.query_split.specs.declared.split.Split.TheVariants as by
 use Rattle.query_split.specs.Condition.{Key}
 use Rattle.query_split.specs.Parts.{AreParts}
 use Rattle.query_split.specs.ForParts.{for_parts, is_splittable}
@@ -20,5 +21,17 @@ PartsGiveRows =
     → IsEnough limit (unwrap_or q.offset 0) q.limit
     → (D part : List QuadParts) (parts : List (List QuadParts))
     → AreParts split part parts
+    → IsSameSet D (joined (part ∷ parts))
+    → rows q D ≡ merged q.distinct (unwrap_or q.offset 0) q.limit (map (rows (for_parts limit q)) (part ∷ parts))
+
+-- With DISTINCT the parts of a split by lines may have quads in common.
+abbrev pub OverlappingPartsGiveRows : Type 0
+OverlappingPartsGiveRows =
+    (key : Key) (q : QueryTree)
+    → is_splittable by.Lines key q ≡ true
+    → q.distinct ≡ true
+    → (limit : Option ℕ)
+    → IsEnough limit (unwrap_or q.offset 0) q.limit
+    → (D part : List QuadParts) (parts : List (List QuadParts))
     → IsSameSet D (joined (part ∷ parts))
     → rows q D ≡ merged q.distinct (unwrap_or q.offset 0) q.limit (map (rows (for_parts limit q)) (part ∷ parts))

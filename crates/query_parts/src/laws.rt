@@ -1,7 +1,12 @@
-//! The law of queries over parts: the contract of a function that does nothing.
-ghost use Rattle.query_parts.specs.Laws.{PartsGiveRows};
+//! The laws of queries over parts: the contracts of functions that do nothing.
+ghost use Rattle.query_parts.specs.Laws.{OverlappingPartsGiveRows, PartsGiveRows};
 
 /// Proves that the rows of a query over a dataset are the merged rows of the query for the parts.
 pub fn parts_give_the_rows()
     ensures law { PartsGiveRows }
+{}
+
+/// Proves the same of a query with DISTINCT over parts by lines that may have quads in common.
+pub fn overlapping_parts_give_the_rows()
+    ensures law { OverlappingPartsGiveRows }
 {}

@@ -2,3 +2,4 @@ pub mod OperatorSplits
 pub mod PatternSplits
 pub mod KeyedLaws
 pub mod SplitLaws
+pub mod OverlapLaws
