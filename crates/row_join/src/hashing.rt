@@ -49,8 +49,9 @@ pub(crate) fn bucket_of(hashing: Hashing, buckets: usize, numbers: &[u64]) -> us
     key_hash(hashing, numbers) as usize & (buckets - 1)
 }
 
-/// Returns the difference of the greatest and the least number that the rows bind the variable to.
-fn span_of(rows: &Rows, variable: usize) -> u64
+/// Returns the least and the greatest number that the rows bind the variable to. If they bind it to
+/// none, the first number is the greater one.
+pub(crate) fn bounds_of(rows: &Rows, variable: usize) -> (u64, u64)
     requires below { variable < rows.now.width }
 {
     let mut least = u64::MAX;
@@ -61,12 +62,13 @@ fn span_of(rows: &Rows, variable: usize) -> u64
             greatest = greatest.max(number);
         }
     }
-    greatest.saturating_sub(least)
+    (least, greatest)
 }
 
-/// Returns the hash of close numbers that makes about one bucket of use for each row: at most sixteen numbers have the same
-/// bucket, of a table with a bucket for each row. Returns None if the numbers are not close together.
-fn close_hashing(span: u64, rows: usize) -> Option<Hashing> {
+/// Returns the hash of numbers between two bounds that makes about one bucket of use for each row: at most sixteen numbers
+/// have the same bucket, of a table with a bucket for each row. Returns None if the numbers are not close together.
+pub(crate) fn close_hashing(least: u64, greatest: u64, rows: usize) -> Option<Hashing> {
+    let span = greatest.saturating_sub(least);
     match span.checked_div(rows as u64).unwrap_or(0) {
         0..=1 => Some(Hashing::Close(0)),
         2..=3 => Some(Hashing::Close(1)),
@@ -81,8 +83,8 @@ pub(crate) fn hashing_of(state: RandomState, rows: &Rows, key: &[usize]) -> Hash
     requires below { All (λ v. v < rows.now.width) key.now }
 {
     if key.len() == 1 {
-        let span = span_of(rows, key[0]);
-        if let Some(hashing) = close_hashing(span, rows.len()) {
+        let (least, greatest) = bounds_of(rows, key[0]);
+        if let Some(hashing) = close_hashing(least, greatest, rows.len()) {
             return hashing;
         }
     }

@@ -2,6 +2,7 @@
 ghost use Rattle.std.specs.Prelude.{◌≡◌, ◌<◌, All, IfOk, get_or, is_none, length, filter, None};
 ghost use Rattle.row_join.specs.Pairing.{binds};
 
+use crate::hashing::{bounds_of, close_hashing};
 use row_core::Rows;
 use std::alloc::{AllocError, Global};
 
@@ -11,6 +12,10 @@ use std::alloc::{AllocError, Global};
 /// are compared in the time that one row takes to enter the table. A pair costs a walk over two
 /// short rows; an entry costs a list, a hash and a place in a table.
 const PAIRS_A_ROW: usize = 16;
+
+/// The most right rows that have the same number of a variable which is the key alone. Each of them
+/// is compared with a left row of that number, which costs less than a hash of several numbers.
+const ROWS_A_NUMBER: u8 = 4;
 
 /// Returns whether some row binds the variable.
 pub(crate) fn is_ever_bound(rows: &Rows, variable: usize) -> bool
@@ -50,9 +55,48 @@ fn open_pairs(left: &Rows, right: &Rows, variable: usize) -> usize
     of_left.saturating_add(of_right)
 }
 
+/// Returns whether the variable can be the key alone: the numbers that the rows bind it to are close
+/// together, so that they need no hash, and few rows have the same number. A byte counts the rows of
+/// each number between the least and the greatest; these are at most sixteen for each row.
+fn is_enough(alloc: Global, rows: &Rows, variable: usize) -> Result<bool, AllocError>
+    requires below { variable < rows.now.width }
+{
+    let (least, greatest) = bounds_of(rows, variable);
+    if close_hashing(least, greatest, rows.len()).is_none() {
+        return Ok(false);
+    }
+    let span = greatest.saturating_sub(least) as usize;
+    let mut counts = vec![in alloc; 0u8; span.saturating_add(1)]?;
+    for i in 0..rows.len() {
+        if let Some(number) = rows.get(i, variable) {
+            let at = number.saturating_sub(least) as usize;
+            if at >= counts.len() || counts[at] >= ROWS_A_NUMBER {
+                return Ok(false);
+            }
+            counts[at] += 1;
+        }
+    }
+    Ok(true)
+}
+
+/// Returns the first variable of a key that can be the key alone, or else the whole key.
+fn shortest(alloc: Global, rows: &Rows, key: Vec<usize>) -> Result<Vec<usize>, AllocError>
+    requires below { All (λ v. v < rows.now.width) key.items }
+    ensures below { IfOk result (λ shortest. All (λ v. v < rows.now.width) shortest.items) }
+{
+    if key.len() > 1 {
+        for i in 0..key.len() {
+            if is_enough(alloc, rows, key[i])? {
+                return Ok(vec![in alloc; key[i]]?);
+            }
+        }
+    }
+    Ok(key)
+}
+
 /// Returns the variables of the join key. Candidates are the variables that some row of each side
-/// binds. The key has the candidates that add few pairs; if there are none, it has all candidates.
-/// It is empty if the sides share no variable.
+/// binds. The key has the candidates that add few pairs, or only one of them if that is enough. If
+/// none adds few pairs, it has all candidates. It is empty if the sides share no variable.
 pub(crate) fn key_of(alloc: Global, left: &Rows, right: &Rows) -> Result<Vec<usize>, AllocError>
     requires same_width { left.now.width ≡ right.now.width }
     ensures below { IfOk result (λ key. All (λ v. v < left.now.width) key.items) }
@@ -69,5 +113,8 @@ pub(crate) fn key_of(alloc: Global, left: &Rows, right: &Rows) -> Result<Vec<usi
             }
         }
     }
-    Ok(if closed.is_empty() { shared } else { closed })
+    if closed.is_empty() {
+        return Ok(shared);
+    }
+    shortest(alloc, right, closed)
 }

@@ -1,7 +1,7 @@
 use Rattle.std.proofs.Common.{◌≡◌, ◌<◌, ◌++◌, ◌∷◌, [], All, List, ℕ, Vec, Global, ap, ◌∙◌, arith}
 use Rattle.std.proofs.lemmas.List.Elements.{All-append, All-cons, All-nil, All-same}
 use Rattle.row_join.proofs.key_choice.key_of.Goals as goal
-use Rattle.row_join.proofs.key_choice.key_of.Goals.{else-is_ever_bound, then-is_ever_bound+then-is_ever_bound-2+in_ok-push+then-open_pairs-few+in_ok-push-2, then-is_ever_bound+then-is_ever_bound-2+in_ok-push+else-open_pairs-few, then-is_empty, else-is_empty}
+use Rattle.row_join.proofs.key_choice.key_of.Goals.{else-is_ever_bound, then-is_ever_bound+then-is_ever_bound-2+in_ok-push+then-open_pairs-few+in_ok-push-2, then-is_ever_bound+then-is_ever_bound-2+in_ok-push+else-open_pairs-few}
 
 same_below : (n : ℕ) (old new : Vec ℕ Global) → new ≡ old → All (λ u. u < n) old.items → All (λ u. u < n) new.items
 same_below n old new is all = All-same (λ u. u < n) new.items old.items (ap (λ (l : Vec ℕ Global). l.items) is) all
@@ -31,13 +31,3 @@ loop-v-preserved c =
         shared = same_below n _ _ w.shared-is was.shared;
       }
     ]
-
-pub returns : goal.returns
-returns c =
-    let n = c.args.left.now.width in
-    record {
-      below = elim c.if-is_empty.branch [
-        | then-is_empty w ↦ same_below n _ _ w.result-is c.loop-v.invariant.shared
-        | else-is_empty w ↦ same_below n _ _ w.result-is c.loop-v.invariant.closed
-      ];
-    }
