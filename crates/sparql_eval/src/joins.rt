@@ -3,8 +3,10 @@ ghost use Rattle.std.specs.Bool.{OnTrue};
 ghost use Rattle.std.specs.List.{list_all};
 ghost use Rattle.std.specs.Prelude.{◌≡◌, ◌<◌, ◌≤◌, ◌∷◌, [], get_or, is_some, length, not, replicate, true, None, IfErr, IfOk};
 ghost use Rattle.rdf_core.specs.Equality.{term_eq};
+ghost use Rattle.rdf_core.specs.declared.term.Term.{Term};
 ghost use Rattle.algebra_model.specs.Expression.{holds};
 ghost use Rattle.algebra_model.specs.Operators.{join, left_join, minus};
+ghost use Rattle.algebra_model.specs.Solution.{Solution};
 ghost use Rattle.row_pieces.specs.How.{IsRunnable, HasOneWorker};
 ghost use Rattle.row_pieces.specs.declared.fault.EvalFault.TheVariants.{Memory};
 ghost use Rattle.expression_values.specs.ExpressionOf.{expression_of};
@@ -27,6 +29,7 @@ use std::alloc::{AllocError, Global};
 use std::hash::RandomState;
 use std::sync::Wait;
 use std::thread::Threads;
+use term_values::truth;
 
 /// Evaluates Join: returns the merge of each compatible pair of rows, once for each pair. The right
 /// side is hashed with the given state, and the pieces of the left side borrow it. The dictionary
@@ -279,6 +282,7 @@ fn left_joined_by_rows<R: Threads + Wait, G: Gate + Sync>(
         dict,
         condition,
         place,
+        is_certain: is_certain(condition),
     };
     row_join::left_join(
         context.rt,
@@ -371,6 +375,9 @@ struct Condition<'a> {
     dict: &'a Dict,
     condition: &'a Expr,
     place: Place<'a>,
+    /// Whether the condition is true of all rows, so that it need not be evaluated.
+    is_certain: bool,
+    ghost certain: { is_certain ≡ true → (μ : Solution Term) → holds (expression_of condition.now) μ ≡ true },
 }
 
 impl<'a> RowTest for Condition<'a> {
@@ -385,10 +392,24 @@ impl<'a> RowTest for Condition<'a> {
     ghost keeps = { λ t μ. holds (expression_of t.condition.now) (read_row (term_at t.dict.now) μ) };
 
     fn keeps(&self, alloc: Global, row: &[Option<u64>]) -> Result<bool, AllocError> {
+        if self.is_certain {
+            return Ok(true);
+        }
         let row = ReadRow {
             dict: self.dict,
             row,
         };
         test_counted(alloc, self.condition, &row, self.place)
+    }
+}
+
+/// Returns whether a condition is a constant whose effective boolean value is true, as that of an
+/// OPTIONAL without FILTER is. It is true of all rows.
+fn is_certain(condition: &Expr) -> bool
+    ensures certain { result ≡ true → (μ : Solution Term) → holds (expression_of condition.now) μ ≡ true }
+{
+    match condition {
+        Expr::Constant(term) => truth(term) == Some(true),
+        _ => false,
     }
 }
