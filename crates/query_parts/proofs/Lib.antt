@@ -1,7 +1,9 @@
 pub mod WidthLaws
 pub mod CellLaws
 pub mod RowLaws
+pub mod MergeLaws
 pub mod QueryTags
 pub mod PlanTags
 pub mod DocumentTags
 pub mod SolutionTags
+pub mod ResultLaws

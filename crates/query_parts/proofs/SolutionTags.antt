@@ -1,5 +1,5 @@
 -- In the solutions and the rows of a query each literal with a language tag has the right datatype.
-use Rattle.std.proofs.Common.{ℕ, zero, suc, ◌+◌, Bool, true, false, List, [], ◌∷◌, length, get_or, take, drop, map, filter, filter_map, replicate, Option, None, Some, is_some, if◌then◌else◌}
+use Rattle.std.proofs.Common.{ℕ, zero, suc, ◌+◌, Bool, true, false, List, [], ◌∷◌, length, get_or, take, map, filter, filter_map, replicate, Option, None, Some, is_some, if◌then◌else◌}
 use Rattle.std.specs.Prelude.{unwrap_or}
 use Rattle.std.specs.List.{cons_option, list_any}
 use Rattle.std.specs.Option.{option_eq}
@@ -20,12 +20,9 @@ use Rattle.algebra_model.specs.BooleanValue.{logical_and, logical_not, logical_o
 use Rattle.algebra_model.specs.Comparison.{compares}
 use Rattle.algebra_model.specs.Operators.{join}
 use Rattle.algebra_model.specs.Renaming.{Each, EachBound, EachOfTriple}
-use Rattle.algebra_model.specs.RowOrder.{cells, cells_cmp}
+use Rattle.algebra_model.specs.RowOrder.{cells}
 use Rattle.algebra_model.specs.Solution.{Solution, same_solution}
-use Rattle.algebra_model.specs.Sorted.{limited, sorted_list}
-use Rattle.algebra_model.proofs.RangeLaws.{Each-IsSameBag, Each-append, Each-filter, Each-flat_map, Each-map, Each-without_repeats, OfOption, extend-bound, join-bound, left_join-bound, minus-bound, project-bound, set-bound, table-bound, unbound-bound}
-use Rattle.algebra_model.proofs.RowOrderLaws.{cells_cmp_total, cells_equal}
-use Rattle.algebra_model.proofs.SortedLaws.{sorted_permutation}
+use Rattle.algebra_model.proofs.RangeLaws.{Each-append, Each-filter, Each-flat_map, Each-map, Each-without_repeats, OfOption, extend-bound, join-bound, left_join-bound, minus-bound, project-bound, set-bound, table-bound, unbound-bound}
 use Rattle.sparql_tree.specs.QueryTree.{QueryTree}
 use Rattle.sparql_algebra.specs.Names.{names_of}
 use Rattle.sparql_algebra.specs.Translation.{projection, translate}
@@ -34,6 +31,8 @@ use Rattle.row_merge.specs.Merged.{Row}
 use Rattle.result_merge.specs.Tags.{HasTagType}
 use Rattle.query_split.proofs.OperatorSplits as each
 use Rattle.query_parts.specs.Laws.{IsOfDocument, RowsAreTagged}
+use Rattle.sparql_read.specs.Rejection.{IsValidQuery}
+use Rattle.query_parts.proofs.MergeLaws.{Each-sorted}
 use Rattle.query_parts.proofs.DocumentTags.{IsTaggedQuad, statements_tagged}
 use Rattle.query_parts.proofs.PlanTags.{GivesTags, HasTaggedTerm, translated_gives}
 use Rattle.query_parts.proofs.QueryTags.{IsTagged, derived_has_tags}
@@ -180,34 +179,21 @@ cells_tagged : (vs : List ℕ) (μ : Solution Term) → IsTaggedSolution μ → 
 cells_tagged [] μ h = tt
 cells_tagged (v ∷ vs) μ h = (cell_tagged μ v h, cells_tagged vs μ h)
 
-module _ {X : Type 0} (P : X → Type 0) where
-  Each-take : (n : ℕ) (xs : List X) → Each P xs → Each P (take n xs)
-  Each-take zero xs h = tt
-  Each-take (suc n) [] h = tt
-  Each-take (suc n) (x ∷ xs) h = (h.0, Each-take n xs h.1)
-
-  Each-drop : (n : ℕ) (xs : List X) → Each P xs → Each P (drop n xs)
-  Each-drop zero xs h = h
-  Each-drop (suc n) [] h = tt
-  Each-drop (suc n) (x ∷ xs) h = Each-drop n xs h.1
-
-  Each-limited : (n : Option ℕ) (xs : List X) → Each P xs → Each P (limited n xs)
-  Each-limited None xs h = h
-  Each-limited (Some n) xs h = Each-take n xs h
-
-of_query : (q : QueryTree) (D : List QuadParts) → GivesTags (translate q).algebra → Each IsTaggedQuad D → Each (Each HasTagType) (rows q D)
+-- what is true of the row of each solution
+pub Each-rows : (P : Row → Type 0) (q : QueryTree) (D : List QuadParts)
+    → Each P (map (cells (projection q)) (eval (length (names_of q)) D None (translate q).algebra)) → Each P (rows q D)
 unfolding rows
-of_query q D gives tagged =
-    let w = length (names_of q) in
+Each-rows P q D h = Each-sorted P (unwrap_or q.offset 0) q.limit (map (cells (projection q)) (eval (length (names_of q)) D None (translate q).algebra)) h
+
+pub of_query : (text : List ℕ) (q : QueryTree) (D : List QuadParts) → IsValidQuery text q → IsOfDocument D → Each (Each HasTagType) (rows q D)
+of_query text q D valid document =
     let vs = projection q in
-    let A = eval w D None (translate q).algebra in
-    let all = map (cells vs) A in
-    let of_all = Each-map IsTaggedSolution (Each HasTagType) (cells vs) (cells_tagged vs) A (solutions_tagged w D tagged (translate q).algebra None gives) in
-    let sorted = Each-IsSameBag (Each HasTagType) all (sorted_list cells_cmp all) (sorted_permutation cells_cmp cells_cmp_total cells_equal all) of_all in
-    let offset = unwrap_or q.offset 0 in
-    Each-limited (Each HasTagType) q.limit (drop offset (sorted_list cells_cmp all)) (Each-drop (Each HasTagType) offset (sorted_list cells_cmp all) sorted)
+    let A = (translate q).algebra in
+    let w = length (names_of q) in
+    let gives = translated_gives q (derived_has_tags text q valid.derives) in
+    let tagged = statements_tagged (lines document.0) D document.1 in
+    Each-rows (Each HasTagType) q D
+    (Each-map IsTaggedSolution (Each HasTagType) (cells vs) (cells_tagged vs) (eval w D None A) (solutions_tagged w D tagged A None gives))
 
 pub rows_are_tagged : RowsAreTagged
-rows_are_tagged text q valid parts documents =
-    let gives = translated_gives q (derived_has_tags text q valid.derives) in
-    Each-map IsOfDocument (Each (Each HasTagType)) (rows q) (λ D h. of_query q D gives (statements_tagged (lines h.0) D h.1)) parts documents
+rows_are_tagged text q valid parts documents = Each-map IsOfDocument (Each (Each HasTagType)) (rows q) (λ D h. of_query text q D valid h) parts documents
