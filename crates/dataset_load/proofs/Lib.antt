@@ -6,6 +6,7 @@ mod ReaderSteps
 mod StreamingSteps
 mod CountingSteps
 pub mod TermSteps
+mod BuildingSteps
 pub mod ListingSteps
 mod RestSteps
 mod LimitSteps

@@ -10,7 +10,7 @@ use Rattle.std.specs.Result.{IfOk}
 use Rattle.std.specs.declared.alloc.AllocError.{AllocError}
 use Rattle.text_pieces.specs.Forms.{AreFormsOf}
 use Rattle.text_pieces.proofs.FormLaws.{length_forms}
-use Rattle.dataset_load.specs.Terms.{AreTermParts, IsTermPart, terms_of_a_part}
+use Rattle.dataset_load.specs.Terms.{AreJoined, AreTermParts, IsTermPart, terms_of_a_part}
 
 -- the terms with these numbers are a part
 pub part_between : (terms : List Term) (len i from to : ℕ) → len ≡ length terms → from ≡ min (i * terms_of_a_part) len → to ≡ min (from + terms_of_a_part) len
@@ -50,13 +50,6 @@ parts_of (dict ∷ dicts) terms first h =
           let next : first + suc i ≡ suc first + i = omega arith in
           h (suc i) d (omega (arith, low)) ∙ ap (λ n. first_appearances (take terms_of_a_part (drop (n * terms_of_a_part) terms))) next),
     )
-
--- the terms of the parts before one, and the parts that are left up to another
-pub record AreJoined (terms dict : List Term) (left : List (List Term)) (end : ℕ) : Type 0 where
-  pub at : ℕ
-  pub first : dict ≡ first_appearances (take (at * terms_of_a_part) terms)
-  pub later : AreTermParts terms at left
-  pub ends : at + length left ≡ end
 
 pub joined_none : (terms dict : List Term) (left : List (List Term)) (at : ℕ) → dict ≡ first_appearances (take (at * terms_of_a_part) terms) → AreTermParts terms at left
     → AreJoined terms dict left (at + length left)

@@ -13,6 +13,7 @@ pub mod Counted
 pub mod Counting
 pub mod Ahead
 pub mod Terms
+pub mod Building
 pub mod Causes
 pub mod FaultNames
 pub mod PartCounts

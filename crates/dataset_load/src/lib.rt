@@ -18,8 +18,8 @@
 //! index (`IsCountedFrom`, `AreTermsFrom` in specs/Counted.antt).
 //!
 //! Reading order: `fault`, `store`, `round_job` (one piece), `numbered` and `rounds`
-//! (all pieces), `sorting` (the lists of the index), `terms` (the terms of the texts), `loading`, `reader` (blocks of a reader),
-//! `reader_fault`, `part_counts`, `counted`, `load_notes`, `load_context`, `causes`, `listing` and `rest` (the malformed lines), `bad_round`,
+//! (all pieces), `sorting` (the lists of the index), `terms` (the terms of the texts), `building` (a store), `loading`,
+//! `reader` (blocks of a reader), `reader_fault`, `part_counts`, `counted`, `load_notes`, `load_context`, `causes`, `listing` and `rest` (the malformed lines), `bad_round`,
 //! `streaming`.
 //!
 //! Tests: `loading::readers` and `loading::refusals` of spq_tests, and the files tests/examples/document_*.toml.
@@ -36,6 +36,7 @@
 #![tactic(auto)]
 
 mod bad_round;
+mod building;
 mod causes;
 mod counted;
 mod fault;

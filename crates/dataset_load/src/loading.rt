@@ -7,14 +7,11 @@ ghost use Rattle.piece_cuts.specs.Cuts.{AreCuts};
 ghost use Rattle.dataset_load.specs.Fault.{IfBadLine, IsOneWorkerLoadFault};
 ghost use Rattle.dataset_load.specs.Lines.{all_lines, AreWholeLines, block_texts, joined, texts};
 ghost use Rattle.dataset_load.specs.Loaded.{IsLoaded};
-ghost use Rattle.dataset_load.specs.Rounds.{HasRead};
 
+use crate::building::store_of;
 use crate::fault::LoadFault;
-use crate::numbered::Numbered;
 use crate::rounds::number_pieces;
-use crate::sorting::sorted_index;
 use crate::store::Store;
-use crate::terms::read_terms;
 use piece_cuts::Cuts;
 use piece_cuts::laws::pieces_are_the_document;
 use piece_pool::Gate;
@@ -99,26 +96,6 @@ fn load_pieces<R: Threads + Wait + RandomSource, G: Gate + Sync>(
     let state = hash_state(rt)?;
     let so_far = number_pieces(rt, alloc, state, pieces, workers, gate)?;
     store_of(rt, alloc, so_far, workers)
-}
-
-/// Builds the store of quads that are numbered.
-pub(crate) fn store_of<R: Threads + Wait + RandomSource>(
-    rt: &R,
-    alloc: Global,
-    so_far: Numbered,
-    workers: usize,
-) -> Result<Store, LoadFault>
-    requires workers { (1 ≤ workers) × (workers ≤ most_workers) }
-    requires read { (lines : _) × HasRead so_far lines }
-    ensures loaded { IfOk result (λ store. (lines : _) → HasRead so_far lines → IsLoaded lines store) }
-    ensures no_bad_line { IfErr result (IfBadLine (λ _. ⊥)) }
-    ensures one_worker { workers ≡ 1 → IfErr result IsOneWorkerLoadFault }
-{
-    let Numbered { dict, quads, .. } = so_far;
-    let index = sorted_index(rt, alloc, quads, workers)?;
-    let terms = read_terms(rt, alloc, &dict, workers)?;
-    drop(dict);
-    Ok(Store::of_parts(terms, index))
 }
 
 /// Creates a hash state with random keys of the runtime, because the terms are untrusted input.

@@ -1,47 +1,17 @@
-//! The three lists of an index, sorted in parallel.
-ghost use Rattle.std.specs.Prelude.{◌≡◌, ◌≤◌, ◌∷◌, [], length, IfOk, IfErr, IsPermutation};
-ghost use Rattle.piece_pool.specs.Limits.{most_workers};
+//! The three lists of an index.
+ghost use Rattle.std.specs.Prelude.{◌≡◌, ◌∷◌, [], length, IfOk, IsPermutation};
 ghost use Rattle.algebra_model.specs.Bag.{without_repeats};
 ghost use Rattle.dict_core.specs.Equality.{quad_eq};
-ghost use Rattle.dataset_load.specs.Fault.{IfBadLine, IsOneWorkerLoadFault};
-ghost use Rattle.dataset_load.specs.Rounds.{AreSortedLists, IsSortedList, order_at};
+ghost use Rattle.dataset_load.specs.Rounds.{AreSortedLists, order_at};
 
-use crate::fault::LoadFault;
-use dict_core::NumQuad;
-use piece_pool::{Job, JobFault, OpenGate, Outcome, run_all};
-use quad_index::{Index, QuadList, SortOrder, sorted_list};
+use quad_index::{Index, QuadList, SortOrder};
 use std::alloc::{AllocError, Global};
-use std::sync::Wait;
-use std::thread::Threads;
 
-/// Three pieces of work: the quads in each of the orders of an index.
-#[derive(Drop)]
-struct SortedLists<'q> {
-    quads: &'q [NumQuad],
-}
+/// The number of lists of an index.
+pub(crate) const LISTS: u64 = 3;
 
-impl<'q> Job for SortedLists<'q> {
-    ghost use Rattle.dataset_load.specs.Rounds.{IsSortedList, order_at};
-
-    type Out = QuadList;
-
-    type Fault = ();
-
-    ghost answers = { λ job i out. IsSortedList (order_at i) job.quads.now out };
-
-    ghost faults = { λ _ _ _. ⊥ };
-
-    fn run(&self, alloc: Global, i: u64) -> Result<QuadList, JobFault<()>> {
-        match sorted_list(alloc, self.quads, order_at(i)) {
-            Ok(list) => Ok(list),
-            Err(_) => Err(JobFault::Memory),
-        }
-    }
-
-    ghost exclusive = { λ _ _ _ _ _ absurd. absurd };
-}
-
-fn order_at(i: u64) -> SortOrder
+/// Returns the order of list `i`.
+pub(crate) fn order_at(i: u64) -> SortOrder
     ensures order { result ≡ order_at i }
 {
     if i == 0 {
@@ -53,48 +23,8 @@ fn order_at(i: u64) -> SortOrder
     }
 }
 
-/// Builds the index of these quads. A repeated statement counts once. The quads are freed before the index is built.
-///
-/// # Errors
-/// `WorkerRefused` and `Memory` as in a pool. With one worker the first cannot occur.
-pub(crate) fn sorted_index<R: Threads + Wait>(
-    rt: &R,
-    alloc: Global,
-    quads: Vec<NumQuad>,
-    workers: usize,
-) -> Result<Index, LoadFault>
-    requires workers { (1 ≤ workers) × (workers ≤ most_workers) }
-    ensures each_once { IfOk result
-        (λ index. IsPermutation (without_repeats quad_eq quads.items) index) }
-    ensures no_bad_line { IfErr result (IfBadLine (λ _. ⊥)) }
-    ensures one_worker { workers ≡ 1 → IfErr result IsOneWorkerLoadFault }
-{
-    let lists = sorted_lists(rt, alloc, quads.as_slice(), workers)?;
-    drop(quads);
-    Ok(index_of(alloc, lists)?)
-}
-
-/// Sorts the quads in the three orders of an index, in parallel.
-fn sorted_lists<R: Threads + Wait>(
-    rt: &R,
-    alloc: Global,
-    quads: &[NumQuad],
-    workers: usize,
-) -> Result<Vec<QuadList>, LoadFault>
-    requires workers { (1 ≤ workers) × (workers ≤ most_workers) }
-    ensures lists { IfOk result (λ lists. AreSortedLists quads.now lists.items) }
-    ensures no_bad_line { IfErr result (IfBadLine (λ _. ⊥)) }
-    ensures one_worker { workers ≡ 1 → IfErr result IsOneWorkerLoadFault }
-{
-    let job = SortedLists { quads };
-    match run_all(rt, alloc, workers, 3, &job, &OpenGate)? {
-        Outcome::All(lists) => Ok(lists),
-        Outcome::First { .. } => unreachable!(),
-    }
-}
-
 /// Builds the index of these three lists.
-fn index_of(alloc: Global, lists: Vec<QuadList>) -> Result<Index, AllocError>
+pub(crate) fn index_of(alloc: Global, lists: Vec<QuadList>) -> Result<Index, AllocError>
     requires lists { (quads : _) × AreSortedLists quads lists.items }
     ensures each_once { IfOk result (λ index. (quads : _) → AreSortedLists quads lists.items
         → IsPermutation (without_repeats quad_eq quads) index) }

@@ -19,12 +19,13 @@ ghost use Rattle.dataset_load.specs.Listing.{IsListing};
 ghost use Rattle.dataset_load.specs.BadRounds.{IsBadRound, IsListedAfter, IsReady};
 
 use crate::bad_round::{BadRound, ReadState};
+use crate::building::store_of;
 use crate::causes::load_failed;
 use crate::counted::{Counted, counted_of};
 use crate::fault::LoadFault;
 use crate::load_context::LoadContext;
 use crate::load_notes::{LoadListener, LoadNotes};
-use crate::loading::{borrowed_blocks, hash_state, store_of};
+use crate::loading::{borrowed_blocks, hash_state};
 use crate::numbered::Numbered;
 use crate::reader::{RoundBlocks, next_round, round_after};
 use crate::reader_fault::ReaderFault;
