@@ -24,6 +24,8 @@ STRING, BOOLEAN, DECIMAL = XSD + "string", XSD + "boolean", XSD + "decimal"
 INTEGERS = {XSD + it for it in "integer int byte nonNegativeInteger".split()}
 FLOATS = {XSD + "double", XSD + "float"}
 MOST_ROWS, MOST_NOTES = 4000, 10
+# The rows of two groups paired by an equality, with those of further groups, up to which no note on a common cause is missing.
+MOST_PAIRED = 1000
 
 
 class Error(Exception):
@@ -627,7 +629,7 @@ class Drawer:
     """A random query. Each group has a triple pattern, so that none is the same in every graph."""
 
     def __init__(self, draw, quads):
-        self.draw, self.quads, self.fresh, self.is_nested = draw, quads, 0, False
+        self.draw, self.quads, self.fresh, self.is_nested, self.paired_rows = draw, quads, 0, False, 1
         self.expressions = []
 
     def new(self):
@@ -691,7 +693,9 @@ class Drawer:
 
         def part(subject, item):
             subject = draw.choice(["s", subject]) if draw.random() < 0.3 else subject
-            return ("triples", [(("var", subject), draw.choice(PREDICATES), ("var", item))])
+            predicate = draw.choice(PREDICATES)
+            self.paired_rows *= sum(it[1] == predicate for it in self.quads)
+            return ("triples", [(("var", subject), predicate, ("var", item))])
 
         sides = [("STR", it) if draw.random() < 0.3 else it for it in (("var", "x"), ("var", "y"))]
         equal = ("compare", "=", *sides)
@@ -718,6 +722,10 @@ def case(seed):
         quads = drawn_quads(draw)
         drawer = Drawer(draw, quads)
         group = drawer.paired() if draw.random() < 0.2 else drawer.group(set(), 2, False)[0]
+        if drawer.paired_rows > MOST_PAIRED:
+            # (`everywhere` has cases with more)
+            seed += 1_000_000_007
+            continue
         writer, model = Writer(draw), Model(quads)
         writer.put("SELECT", "*")
         writer.group(group, "", False, False)
@@ -900,6 +908,25 @@ def further():
         yield document, writer.text, writer.notes(quads) + notes, most // each * each if pairs * each > most else None
 
 
+def everywhere():
+    """Yields cases with a FILTER by which rows are paired, and one that is an error over every row, with a common cause. It has its note up to
+    the limit of pairs and of the rows that other groups make of them."""
+    integer = XSD + "integer"
+    for left, right, groups in ((10, 10, [10]), (10, 10, [11]), (5, 20, [2, 5]), (5, 20, [3, 4]), (25, 40, []), (25, 41, [])):
+        parts = [("p", "x", left), ("q", "y", right), *((f"r{at}", f"z{at}", rows) for at, rows in enumerate(groups))]
+        quads = [(("iri", f"http://e/{name}{at}"), ("iri", f"http://e/{name}"), literal(str(at), integer), None) for name, _, rows in parts for at in range(rows)]
+        group = [("group", [("triples", [(var(f"s{name}"), ("iri", f"http://e/{name}"), var(item))])]) for name, item, _ in parts]
+        group += [where(*compare("=", "x", "y")), where(*compare(">", "sq", value_of("1", integer)))]
+        writer, model = Writer(random.Random(1)), Model(quads)
+        writer.put("SELECT", "*")
+        writer.group(group, "", False, False)
+        model.group(group, None)
+        notes = model.notes(writer.sites)
+        assert len(notes) == 1, (writer.text, notes)
+        document = "".join(" ".join(written(it) for it in quad if it) + " .\n" for quad in quads)
+        yield document, writer.text, notes if left * right * math.prod(groups) <= MOST_PAIRED else []
+
+
 def tags():
     """Returns cases with language tags in capitals, of which each that LANG, or a variable bound to it, is compared with has a note."""
     start = "SELECT ?s { ?s <http://e/label> ?l "
@@ -944,7 +971,7 @@ def main():
     given = words.parse_args()
     if not os.path.exists(given.program):
         sys.exit(f"no program at {given.program}: build it first (see README)")
-    made = {f"query {at}": it for at, it in enumerate([*daily(), *large(), *further(), *tags()], 1)}
+    made = {f"query {at}": it for at, it in enumerate([*daily(), *large(), *further(), *everywhere(), *tags()], 1)}
     made |= {f"case {seed}": case(seed) for seed in range(given.seed, given.seed + given.count)}
     with concurrent.futures.ThreadPoolExecutor(os.cpu_count()) as pool:
         found = list(pool.map(lambda it: wrong(os.path.abspath(given.program), *it), made.values()))

@@ -19,7 +19,7 @@ ghost use Rattle.sparql_eval.specs.Fitting.{AreStillEvaluated};
 
 use crate::equalities::Equality;
 use crate::pair_counts::{all_pairs, may_share, most_compatible};
-use crate::separated_pairs::{PAIRS_AT_LEAST, Pairs, Side, may_fail};
+use crate::separated_pairs::{PAIRS_AT_LEAST, PAIRS_FOR_A_VALUE, Pairs, Side, may_fail};
 use dict_core::Dict;
 use expression_errors::Place;
 use row_core::Rows;
@@ -64,6 +64,12 @@ impl<'a> Tested<'a> {
         ROWS_AT_MOST / self.rows_of(1).max(1)
     }
 
+    /// Returns whether all pairs are joined to find a row over which the condition has a value: it had none
+    /// over the rows before, and further joins make few rows of these pairs.
+    fn looks_for_a_value(&self, pairs: usize) -> bool {
+        pairs.max(self.rows_of(pairs)) <= PAIRS_FOR_A_VALUE && !self.place.is_valued()
+    }
+
     /// Returns the number of rows that further joins make of some pairs.
     fn rows_of(&self, pairs: usize) -> usize {
         pairs.saturating_mul(self.further.unwrap_or(1))
@@ -101,7 +107,8 @@ pub(crate) fn further_around(pairs: &[Equality], outer: Option<&Tested<'_>>) -> 
 /// - The condition is tested on all rows of the join. Without the keys it is tested on few pairs, since
 ///   they have terms for a common variable. Otherwise they are counted apart.
 /// - The rows pass other filters later, but are tested at once. They are few.
-/// - The rows are joined to others before. They are few, and further joins make few rows of them.
+/// - The rows are joined to others before. They are few, and further joins make few rows of them. An equality
+///   may be an error over them, or they are even fewer and no row before had a value.
 pub(crate) fn is_joined_whole(
     alloc: Global,
     dict: &Dict,
@@ -124,7 +131,9 @@ pub(crate) fn is_joined_whole(
     if tested.further.is_some() {
         are_few
             && tested.rows_of(pairs) <= ROWS_AT_MOST
-            && (!tested.around.is_empty() || may_fail_at_all(dict, left, right, keys))
+            && (!tested.around.is_empty()
+                || tested.looks_for_a_value(pairs)
+                || may_fail_at_all(dict, left, right, keys))
     } else if tested.around.is_empty() {
         !are_few
             && may_be_few_compatible(left, right)

@@ -19,8 +19,9 @@ const PAIRS_A_ROW: usize = 8;
 /// The number of such pairs that are tested for any number of rows.
 pub(crate) const PAIRS_AT_LEAST: usize = 100_000;
 
-/// The number of pairs that are tested to find one over which the condition has a value.
-const PAIRS_FOR_A_VALUE: usize = 1000;
+/// The number of pairs that are tested to find one over which the condition has a value. If further joins
+/// are before the test, it is the number of rows that they make of the pairs.
+pub(crate) const PAIRS_FOR_A_VALUE: usize = 1000;
 
 /// A side of a join.
 #[derive(Clone, Copy)]
