@@ -70,7 +70,7 @@ impl<'a> Job for FirstRound<'a> {
     ghost exclusive = { λ _ _ _ _ _ absurd. absurd };
 }
 
-/// Sorts list `i`, or reads the part of the terms that comes after as many lists and parts.
+/// Sorts list `i` of the index. After the lists, reads the parts of the terms, in order.
 fn build(
     alloc: Global,
     quads: &[NumQuad],
@@ -87,8 +87,8 @@ fn build(
     }
 }
 
-/// Builds the store of quads that are numbered. A repeated statement counts once. The quads are freed before the most terms
-/// are read.
+/// Builds the store of quads that are numbered. A repeated statement counts once. The quads are freed before most of
+/// the terms are read.
 ///
 /// # Errors
 /// `WorkerRefused` and `Memory` as in a pool. With one worker the first cannot occur.
