@@ -11,6 +11,7 @@ ghost use Rattle.cluster_parts.specs.Numbered.{AreQuadsOf, text_at};
 
 use dict_core::NumQuad;
 use nquads_core::PieceFault;
+use quad_filter::QuadFilter;
 use std::alloc::{AllocError, Global};
 use std::hash::RandomState;
 use text_dict::TextDict;
@@ -68,7 +69,13 @@ pub(crate) fn number_lines(
     ensures bad_line { IfErr result
         (λ fault. (k : ℕ) → fault ≡ BadLine k → IsFirstMalformed (lines bytes.now) k) }
 {
-    let piece = read_lines(alloc, state, &TextDict::new(alloc, state), bytes)?;
+    let piece = read_lines(
+        alloc,
+        state,
+        &TextDict::new(alloc, state),
+        &QuadFilter::All,
+        bytes,
+    )?;
     let lines = piece.lines;
     match numbered_piece(alloc, state, piece) {
         Ok((texts, quads)) => Ok(NumberedLines {

@@ -1,5 +1,5 @@
 -- Pieces that are added.
-use Rattle.std.proofs.Common.{◌≡◌, ◌⊎◌, inl, inr, ℕ, zero, suc, ◌+◌, ◌-◌, ◌<◌, ◌≤◌, Bool, true, false, cond, if◌then◌else◌, List, [], ◌∷◌, ◌++◌, length, map, take, drop, get_or, filter, Option, None, Some, option_to_list, slice_get, refl, sym, ap, ◌∙◌, subst, arith, append_assoc}
+use Rattle.std.proofs.Common.{◌≡◌, ◌⊎◌, inl, inr, ℕ, zero, suc, ◌+◌, ◌-◌, ◌<◌, ◌≤◌, Bool, true, false, cond, if◌then◌else◌, List, [], ◌∷◌, ◌++◌, length, map, take, drop, get_or, filter, Option, None, Some, option_to_list, Result, Ok, Err, IfOk, slice_get, refl, sym, ap, ◌∙◌, subst, arith, append_assoc}
 use borrow.Author.Tests.{lt-ltb, le-ltb}
 use Rattle.std.specs.List.{All, list_any, slice_range}
 use Rattle.std.proofs.lemmas.List.{append-nil, take_more}
@@ -30,10 +30,14 @@ use Rattle.dict_core.proofs.InsertLaws.{Keeps, any-from_get, get-insert_all, get
 use Rattle.dict_core.proofs.AppearanceLaws.{appearances, insert_all-appearances}
 use Rattle.dict_core.proofs.MergingSteps.{zipped-push}
 use Rattle.dict_core.proofs.NumberingLaws.{get-below, numbered-append, quads-mapped}
+use Rattle.quad_filter.specs.declared.filter.QuadFilter.{QuadFilter}
+use Rattle.quad_filter.specs.Filter.{keeps}
+use Rattle.quad_filter.proofs.KeptLaws.{list_is_kept}
 use Rattle.text_pieces.specs.declared.text_piece.TextPiece.{TextPiece}
 use Rattle.text_pieces.specs.Forms.{AreFormsOf, AreNumberedBy}
 use Rattle.text_pieces.specs.Pieces.{AreAdded, AreGrown, IsNumberedFrom, IsPieceOf, IsRead, renumbered, renumbered_quad}
-use Rattle.text_pieces.specs.Slices.{AreNumbersOfAll, AreQuadsOf, AreTermNumbers, IsPlaced}
+use Rattle.text_pieces.specs.Slices.{AreNumbersOfAll, AreQuadsOf, AreTermNumbers, IsNumberedPiece, IsPlaced}
+use Rattle.text_pieces.specs.Relevance.{AreRelevant}
 use Rattle.text_pieces.proofs.FormLaws.{inserted_form, length_forms, number_of_term, terms_of_forms}
 
 -- ---- lists of texts that grow
@@ -314,23 +318,43 @@ range_more terms dict grown from n t was rising at grown_is =
 
 -- ---- a piece that was read
 
-pub read_by_slices : (dict : List (List ℕ)) (bytes : List ℕ) (raws : List RawStatement) (piece : TextPiece) → AreForms dict → AreStatements (lines bytes) raws
-    → piece.lines ≡ length (lines bytes) → AreNumbersOfAll dict piece.new.texts raws piece.quads.items → piece.base ≡ length dict → IsRead dict bytes piece
-read_by_slices dict bytes raws piece forms statements counted numbers base =
+-- a piece with the numbers of statements
+pub numbered_statements : (dict : List (List ℕ)) (kept : List RawStatement) (piece : TextPiece) → AreForms dict → AreNumbersOfAll dict piece.new.texts kept piece.quads.items
+    → piece.base ≡ length dict → IsNumberedPiece dict kept piece
+numbered_statements dict kept piece forms numbers base =
     let t = terms_of_forms dict forms in
     let r = numbers t.0 t.1 in record {
       quads = r.2.quads;
-      statements = statements r.2.quads r.2.denote;
+      denote = r.2.denote;
       numbered = record {
         base = base;
         numbered = λ terms h.
             subst (λ (l : List Term). (all : List Term) × AreFormsOf all (dict ++ piece.new.texts) × IsNumberedFrom l r.2.quads all piece.quads.items) (forms_unique dict t.0 terms t.1 h)
             (r.0, r.1, r.2.numbered);
       };
-      count = counted;
     }
 
-pub read_by_quads : (dict : List (List ℕ)) (bytes : List ℕ) (quads : List QuadParts) (piece : TextPiece) → HaveStatements (lines bytes) quads
-    → piece.lines ≡ length (lines bytes) → AreQuadsOf dict piece.new.texts quads piece.quads.items → piece.base ≡ length dict → IsRead dict bytes piece
-read_by_quads dict bytes quads piece statements counted numbers base =
-    record { quads = quads; statements = statements; numbered = record { base = base; numbered = numbers }; count = counted }
+-- the statements of a piece, of which some are kept
+pub read_by_slices : {E : Type 0} (filter : QuadFilter) (dict : List (List ℕ)) (bytes : List ℕ) (raws kept : List RawStatement) (count : ℕ) (r : Result TextPiece E)
+    → AreStatements (lines bytes) raws → AreRelevant filter raws kept → count ≡ length (lines bytes) → IfOk r (IsNumberedPiece dict kept) → IfOk r (λ piece. piece.lines ≡ count)
+    → IfOk r (IsRead filter dict bytes)
+read_by_slices filter dict bytes raws kept count (Ok piece) statements relevant count_is numbered lines_are =
+    let a = relevant numbered.quads numbered.denote in
+    record { all = a.0; statements = statements a.0 a.1; quads = numbered.quads; kept = a.2; numbered = numbered.numbered; count = lines_are ∙ count_is }
+read_by_slices filter dict bytes raws kept count (Err fault) statements relevant count_is numbered lines_are = tt
+
+-- all statements may be kept
+pub relevant_all : (filter : QuadFilter) (raws : List RawStatement) → AreRelevant filter raws raws
+relevant_all filter raws quads denote = (quads, denote, list_is_kept (keeps filter) quads)
+
+-- the quads of a piece, of which none is left out
+pub read_by_quads : (filter : QuadFilter) (dict : List (List ℕ)) (bytes : List ℕ) (quads : List QuadParts) (piece : TextPiece) → HaveStatements (lines bytes) quads
+    → piece.lines ≡ length (lines bytes) → AreQuadsOf dict piece.new.texts quads piece.quads.items → piece.base ≡ length dict → IsRead filter dict bytes piece
+read_by_quads filter dict bytes quads piece statements counted numbers base = record {
+  all = quads;
+  statements = statements;
+  quads = quads;
+  kept = list_is_kept (keeps filter) quads;
+  numbered = record { base = base; numbered = numbers };
+  count = counted;
+}

@@ -4,3 +4,4 @@ pub mod NamingLaws
 pub mod StatementSteps
 pub mod AddingLaws
 pub mod KnownLaws
+pub mod RelevanceSteps

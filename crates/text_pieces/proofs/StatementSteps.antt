@@ -89,7 +89,7 @@ module _ (dict t0 t1 t2 t3 : List (List ℕ)) (raw : RawStatement) (s p o : ℕ)
 
 -- ---- all statements
 
-denote-more : (raws : List RawStatement) (quads : List QuadParts) (raw : RawStatement) (q : QuadParts) → DenoteAll raws quads → DenotesQuad raw q
+pub denote-more : (raws : List RawStatement) (quads : List QuadParts) (raw : RawStatement) (q : QuadParts) → DenoteAll raws quads → DenotesQuad raw q
     → DenoteAll (raws ++ raw ∷ []) (quads ++ q ∷ [])
 denote-more [] quads raw q h k = (q, [], ap (λ (l : List QuadParts). l ++ q ∷ []) h, k, refl)
 denote-more (r ∷ raws) quads raw q h k = (h.0, h.1 ++ q ∷ [], ap (λ (l : List QuadParts). l ++ q ∷ []) h.2, h.3, denote-more raws h.1 raw q h.4 k)

@@ -1,4 +1,5 @@
 pub mod Forms
 pub mod Slices
+pub mod Relevance
 pub mod Hashes
 pub mod Pieces

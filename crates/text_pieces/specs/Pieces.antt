@@ -11,6 +11,9 @@ use Rattle.dict_core.specs.declared.num_quad.NumQuad.{NumQuad}
 use Rattle.dict_core.specs.NumQuad.{quads_at, AreBelow}
 use Rattle.dict_core.specs.Dict.{AreNumbersOf}
 use Rattle.dict_core.specs.Appearances.{terms_of}
+use Rattle.quad_filter.specs.declared.filter.QuadFilter.{QuadFilter}
+use Rattle.quad_filter.specs.Filter.{keeps}
+use Rattle.quad_filter.specs.Kept.{IsKept}
 use Rattle.text_pieces.specs.declared.text_piece.TextPiece.{TextPiece}
 use Rattle.text_pieces.specs.Forms.{AreFormsOf}
 
@@ -27,10 +30,13 @@ pub record IsPieceOf (dict : List (List ℕ)) (quads : List QuadParts) (piece : 
   pub numbered : (terms : List Term) → AreFormsOf terms dict
       → (all : List Term) × AreFormsOf all (dict ++ piece.new.texts) × IsNumberedFrom terms quads all piece.quads.items
 
--- the lines of the bytes are valid, their quads are numbered against the dictionary, and the lines are counted
-pub record IsRead (dict : List (List ℕ)) (bytes : List ℕ) (piece : TextPiece) : Type 0 where
+-- The lines of the bytes are valid. Those of their quads that the filter keeps, and perhaps others of them, are numbered
+-- against the dictionary. The lines are counted.
+pub record IsRead (filter : QuadFilter) (dict : List (List ℕ)) (bytes : List ℕ) (piece : TextPiece) : Type 0 where
+  pub all : List QuadParts
+  pub statements : HaveStatements (lines bytes) all
   pub quads : List QuadParts
-  pub statements : HaveStatements (lines bytes) quads
+  pub kept : IsKept (keeps filter) all quads
   pub numbered : IsPieceOf dict quads piece
   pub count : piece.lines ≡ length (lines bytes)
 

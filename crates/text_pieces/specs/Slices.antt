@@ -16,7 +16,8 @@ use Rattle.dict_core.specs.Dict.{AreNumbersOf}
 use Rattle.dict_core.specs.Appearances.{terms_of_quad}
 use Rattle.text_dict.specs.TextDict.{IsAdded}
 use Rattle.text_pieces.specs.Forms.{AreFormsOf}
-use Rattle.text_pieces.specs.Pieces.{AreGrown, IsNumberedFrom}
+use Rattle.text_pieces.specs.declared.text_piece.TextPiece.{TextPiece}
+use Rattle.text_pieces.specs.Pieces.{AreGrown, IsNumberedFrom, IsPieceOf}
 
 -- the slice denotes a term that P holds of; the term was inserted, and this is its number
 pub record IsTermNumber (P : Term → Type 0) (old new : List Term) (raw : List ℕ) (n : ℕ) : Type 0 where
@@ -39,6 +40,12 @@ pub record AreNumberedStatements (dict : List Term) (raws : List RawStatement) (
   pub quads : List QuadParts
   pub denote : DenoteAll raws quads
   pub numbered : IsNumberedFrom dict quads all numbers
+
+-- the statements denote quads, which are numbered in the piece
+pub record IsNumberedPiece (dict : List (List ℕ)) (raws : List RawStatement) (piece : TextPiece) : Type 0 where
+  pub quads : List QuadParts
+  pub denote : DenoteAll raws quads
+  pub numbered : IsPieceOf dict quads piece
 
 -- the text has this number, after the texts of the dictionary and the new ones grew by it
 pub record IsPlaced (dict old new : List (List ℕ)) (text : List ℕ) (n : ℕ) : Type 0 where

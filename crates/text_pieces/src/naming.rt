@@ -146,7 +146,7 @@ fn text_at<'a>(dict: &'a TextDict, new: &'a TextDict, n: u64) -> &'a [u8]
 }
 
 /// Returns the first byte of a text, or 0 if it is empty.
-fn first_byte(text: &[u8]) -> u8
+pub(crate) fn first_byte(text: &[u8]) -> u8
     ensures value { result ≡ get_or text.now 0 0 }
 {
     if text.is_empty() { 0 } else { text[0] }
@@ -175,7 +175,7 @@ pub(crate) fn number_node(
 
 /// Returns whether two slices are the same text.
 #[inline(always)]
-fn is_same(a: &str, b: &str) -> bool
+pub(crate) fn is_same(a: &str, b: &str) -> bool
     ensures same { result ≡ true → a.now ≡ b.now }
 {
     a == b

@@ -9,17 +9,19 @@ ghost use Rattle.nquads_core.specs.Pieces.{IsFirstMalformed};
 ghost use Rattle.nquads_core.specs.declared.fault.PieceFault.TheVariants.{BadLine};
 ghost use Rattle.dict_core.specs.Appearances.{terms_of};
 ghost use Rattle.text_pieces.specs.Pieces.{IsRead};
-ghost use Rattle.text_pieces.specs.Slices.{AreQuadsOf, AreTermNumbers, IsPlaced};
+ghost use Rattle.text_pieces.specs.Slices.{AreQuadsOf, AreTermNumbers, IsNumberedPiece, IsPlaced};
 
 use crate::hashes::{count_lacking_slices, slice_hashes};
 use crate::naming::{NamingFault, number_text};
 use crate::new_texts::NewTexts;
+use crate::relevance::relevant_statements;
 use crate::renumbering::renumbered_quads;
 use crate::statements::number_statements;
-use crate::text_piece::TextPiece;
+use crate::text_piece::{Seen, TextPiece};
 use dict_core::{Dict, NumQuad, number_piece};
-use nquads_core::{Piece, PieceFault, read_piece};
+use nquads_core::{Piece, PieceFault, RawStatement, read_piece};
 use nquads_scan::split_piece;
+use quad_filter::QuadFilter;
 use rdf_core::{Term, write_term};
 use std::alloc::{AllocError, Global};
 use std::hash::RandomState;
@@ -27,6 +29,8 @@ use text_dict::TextDict;
 
 /// Reads a piece of an N-Quads document (RDF 1.1 N-Quads, grammar) against a dictionary. Numbers its quads, and counts
 /// its lines. The dictionary is only borrowed, so pieces may be read in parallel.
+///
+/// Each quad that the filter keeps is numbered. Others may be left out, after they were validated.
 ///
 /// For speed the piece is split into slices, and a slice that is a text of the dictionary is not read. A piece
 /// that cannot be read like this is read by `read_piece`.
@@ -38,48 +42,95 @@ pub fn read_lines(
     alloc: Global,
     state: RandomState,
     dict: &TextDict,
+    filter: &QuadFilter,
     bytes: &[u8],
 ) -> Result<TextPiece, PieceFault>
-    ensures read { IfOk result (IsRead dict.now.texts bytes.now) }
+    ensures read { IfOk result (IsRead filter.now dict.now.texts bytes.now) }
     ensures bad_line { IfErr result
         (λ fault. (k : ℕ) → fault ≡ BadLine k → IsFirstMalformed (lines bytes.now) k) }
 {
-    match read_split(alloc, dict, bytes) {
+    match read_split(alloc, dict, filter, bytes) {
         Ok(piece) => Ok(piece),
-        Err(NamingFault::NeedsFullReader) => read_quads(alloc, state, dict, bytes),
+        Err(NamingFault::NeedsFullReader) => read_quads(alloc, state, dict, filter, bytes),
         Err(NamingFault::Memory) => Err(PieceFault::Memory),
     }
 }
 
 /// Reads a piece by its slices.
-fn read_split(alloc: Global, dict: &TextDict, bytes: &[u8]) -> Result<TextPiece, NamingFault>
-    ensures read { IfOk result (IsRead dict.now.texts bytes.now) }
+fn read_split(
+    alloc: Global,
+    dict: &TextDict,
+    filter: &QuadFilter,
+    bytes: &[u8],
+) -> Result<TextPiece, NamingFault>
+    ensures read { IfOk result (IsRead filter.now dict.now.texts bytes.now) }
 {
     let Some(split) = split_piece(alloc, bytes)? else {
         return Err(NamingFault::NeedsFullReader);
     };
     let raws = split.statements.as_slice();
-    let hashes = slice_hashes(alloc, dict.state(), raws)?;
+    match filter {
+        QuadFilter::All => number_kept(alloc, dict, raws, seen_in(raws, false), split.lines),
+        QuadFilter::AnyOf(_) => {
+            let kept = relevant_statements(alloc, filter, raws)?;
+            let seen = seen_in(raws, !bytes.is_ascii());
+            number_kept(alloc, dict, kept.as_slice(), seen, split.lines)
+        }
+    }
+}
+
+/// Returns what statements have. The last field is given.
+fn seen_in(raws: &[RawStatement<'_>], lacks_beyond_ascii: bool) -> Seen {
+    Seen {
+        default_graph: raws.iter().any(|raw| raw.graph.is_none()),
+        named_graph: raws.iter().any(|raw| raw.graph.is_some()),
+        lacks_beyond_ascii,
+    }
+}
+
+/// Returns what quads have, of which none is left out.
+fn seen_in_quads(quads: &[NumQuad]) -> Seen {
+    Seen {
+        default_graph: quads.iter().any(|quad| quad.g.is_none()),
+        named_graph: quads.iter().any(|quad| quad.g.is_some()),
+        lacks_beyond_ascii: false,
+    }
+}
+
+/// Numbers the statements of a piece that are kept. The piece has this number of lines.
+fn number_kept(
+    alloc: Global,
+    dict: &TextDict,
+    kept: &[RawStatement<'_>],
+    seen: Seen,
+    lines: u64,
+) -> Result<TextPiece, NamingFault>
+    ensures numbered { IfOk result (IsNumberedPiece dict.now.texts kept.now) }
+    ensures lines { IfOk result (λ piece. piece.lines ≡ lines) }
+{
+    let hashes = slice_hashes(alloc, dict.state(), kept)?;
     let room = count_lacking_slices(dict, hashes.as_slice());
     let mut new = TextDict::with_room(alloc, dict.state(), room)?;
-    let quads = number_statements(alloc, dict, &mut new, raws, hashes.as_slice())?;
+    let quads = number_statements(alloc, dict, &mut new, kept, hashes.as_slice())?;
     let hashed = NewTexts::of(alloc, new)?;
     Ok(TextPiece {
         base: dict.len(),
         new: hashed,
         quads,
-        lines: split.lines,
+        lines,
+        seen,
     })
 }
 
-/// Reads a piece quad by quad.
+/// Reads a piece quad by quad. Leaves out none.
 fn read_quads(
     alloc: Global,
     state: RandomState,
     dict: &TextDict,
+    filter: &QuadFilter,
     bytes: &[u8],
 ) -> Result<TextPiece, PieceFault>
-    ensures read { IfOk result (IsRead dict.now.texts bytes.now) }
+    ensures read { IfOk result (IsRead filter.now dict.now.texts bytes.now) }
     ensures bad_line { IfErr result
         (λ fault. (k : ℕ) → fault ≡ BadLine k → IsFirstMalformed (lines bytes.now) k) }
 {
@@ -92,6 +143,7 @@ fn read_quads(
         Ok((new, quads)) => Ok(TextPiece {
             base: dict.len(),
             new,
+            seen: seen_in_quads(quads.as_slice()),
             quads,
             lines,
         }),

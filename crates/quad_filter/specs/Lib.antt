@@ -1,0 +1,4 @@
+pub mod Filter
+pub mod Kept
+pub mod Slices
+pub mod Laws
