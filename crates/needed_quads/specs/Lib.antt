@@ -1,0 +1,4 @@
+pub mod Restriction
+pub mod Needed
+pub mod Laws
+pub mod Building
