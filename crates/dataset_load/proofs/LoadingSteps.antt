@@ -1,5 +1,5 @@
 -- The pieces of a document, and its store.
-use Rattle.std.proofs.Common.{◌≡◌, ℕ, ◌+◌, ◌<◌, List, [], ◌∷◌, ◌++◌, length, get_or, take, map, Option, IsPermutation, refl, sym, ap, ◌∙◌, subst, inr, arith}
+use Rattle.std.proofs.Common.{◌≡◌, ℕ, ◌+◌, ◌<◌, List, [], ◌∷◌, ◌++◌, length, get_or, take, map, Option, IsPermutation, Result, Ok, Err, IfOk, refl, sym, ap, ◌∙◌, subst, inr, arith}
 use Rattle.std.specs.Option.{unwrap_or}
 use Rattle.std.specs.List.{filter_map}
 use Rattle.std.proofs.lemmas.List.{append-nil, take_more, take_all}
@@ -18,14 +18,19 @@ use Rattle.dict_core.specs.declared.num_quad.NumQuad.{NumQuad}
 use Rattle.dict_core.specs.Appearances.{first_appearances, terms_of}
 use Rattle.dict_core.specs.Dict.{term_at}
 use Rattle.dict_core.proofs.AppearanceLaws.{appearances_front}
-use Rattle.text_pieces.specs.Forms.{AreFormsOf}
+use Rattle.text_pieces.specs.Forms.{AreFormsOf, AreNumberedBy}
+use Rattle.quad_filter.specs.declared.filter.QuadFilter.{QuadFilter}
+use Rattle.quad_filter.specs.declared.filter.QuadFilter.TheVariants.{All}
+use Rattle.quad_filter.proofs.KeptLaws.{all_is_kept}
 use Rattle.dict_core.specs.NumQuad.{quads_at}
 use Rattle.dict_core.proofs.NumQuadLaws.{quad_eq}
 use Rattle.quad_index.proofs.ReadingLaws.{index_reads, index_counts, index_names}
 use Rattle.dataset_load.specs.Lines.{all_lines, AreWholeLines}
-use Rattle.dataset_load.specs.Store.{names_in}
-use Rattle.dataset_load.specs.Loaded.{IsLoaded}
-use Rattle.dataset_load.specs.Rounds.{AreNumbered}
+use Rattle.nquads_core.specs.Pieces.{HaveStatements}
+use Rattle.dataset_load.specs.Store.{StoreView, names_in}
+use Rattle.dataset_load.specs.Loaded.{IsKeptLoaded, IsLoaded, IsStoreOf}
+use Rattle.dataset_load.specs.Rounds.{AreNumbered, HasRead}
+use Rattle.dataset_load.specs.declared.numbered.Numbered.{Numbered}
 use Rattle.dataset_load.proofs.LineLaws.{lines_of_pieces}
 
 module _ (doc places : List ℕ) (pieces : ArePiecesOf doc places) where
@@ -58,33 +63,58 @@ module _ (doc places : List ℕ) (pieces : ArePiecesOf doc places) where
       ap all_lines (is ∙ take_all n (pieces_of doc places) (omega arith))
       ∙ lines_of_pieces (pieces_of doc places) whole ∙ ap lines pieces.joined
 
-pub loaded : (ls texts : List (List ℕ)) (numbered index : List NumQuad) (read : AreNumbered ls texts numbered)
-    → IsPermutation (without_repeats quad_eq numbered) index → IsLoaded ls (record { dict = read.numbered.terms; index = index })
-loaded ls texts numbered index read once =
-    let dict = read.numbered.terms in
-    let same = (index_reads read.quads dict numbered index read.numbered.numbered once).0 in
+-- the store of quads that are numbered
+pub stored : (quads : List QuadParts) (texts : List (List ℕ)) (numbered index : List NumQuad) (are : AreNumberedBy quads texts numbered)
+    → IsPermutation (without_repeats quad_eq numbered) index → IsStoreOf quads (record { dict = are.terms; index = index })
+stored quads texts numbered index are once =
+    let dict = are.terms in
+    let same = (index_reads quads dict numbered index are.numbered once).0 in
     let graphs : List QuadParts → List Term = λ qs. filter_map (λ (q : QuadParts). q.g) qs in
-    let renamed : IsPermutation (names (quads_at dict index)) (names read.quads) =
-    without_repeats-alike term_eq term_decides (graphs (quads_at dict index)) (graphs read.quads)
-    (alike-filter_map (λ (q : QuadParts). q.g) (quads_at dict index) read.quads (alike_from_set (quads_at dict index) read.quads same)) in
+    let renamed : IsPermutation (names (quads_at dict index)) (names quads) =
+    without_repeats-alike term_eq term_decides (graphs (quads_at dict index)) (graphs quads)
+    (alike-filter_map (λ (q : QuadParts). q.g) (quads_at dict index) quads (alike_from_set (quads_at dict index) quads same)) in
     record {
-      quads = read.quads;
-      statements = read.statements;
-      terms = read.numbered.numbered.0;
+      terms = are.numbered.0;
       dataset = same;
-      each_once = index_counts read.quads dict numbered index read.numbered.numbered once;
-      graphs = IsPermutation-trans (names read.quads) (names (quads_at dict index)) (map (term_at dict) (names_in index))
-          (IsPermutation-sym (names (quads_at dict index)) (names read.quads) renamed)
-          (index_names read.quads dict numbered index (names_in index) read.numbered.numbered once (IsPermutation-refl (names_in index)));
+      each_once = index_counts quads dict numbered index are.numbered once;
+      graphs = IsPermutation-trans (names quads) (names (quads_at dict index)) (map (term_at dict) (names_in index))
+          (IsPermutation-sym (names (quads_at dict index)) (names quads) renamed)
+          (index_names quads dict numbered index (names_in index) are.numbered once (IsPermutation-refl (names_in index)));
     }
 
+pub loaded : (filter : QuadFilter) (ls texts : List (List ℕ)) (numbered index : List NumQuad) (read : AreNumbered filter ls texts numbered)
+    → IsPermutation (without_repeats quad_eq numbered) index → IsKeptLoaded filter ls (record { dict = read.numbered.terms; index = index })
+loaded filter ls texts numbered index read once = record {
+  all = read.all;
+  statements = read.statements;
+  quads = read.quads;
+  kept = read.kept;
+  store_of = stored read.quads texts numbered index read.numbered once;
+}
+
+-- with a filter that keeps all quads, the store is that of all of them
+pub all_loaded : (filter : QuadFilter) (ls : List (List ℕ)) (store : StoreView) → filter ≡ All → IsKeptLoaded filter ls store → IsLoaded ls store
+all_loaded filter ls store is was = by (subst (λ (f : QuadFilter). IsKeptLoaded f ls store) is was)
+  where
+    by : IsKeptLoaded All ls store → IsLoaded ls store
+    by l = record {
+      quads = l.quads;
+      statements = subst (λ (qs : List QuadParts). HaveStatements ls qs) (sym (all_is_kept l.all l.quads l.kept)) l.statements;
+      store_of = l.store_of;
+    }
+
+pub all_stored : {E : Type 0} (so_far : Numbered) (ls : List (List ℕ)) (r : Result StoreView E) → so_far.filter.now ≡ All → HasRead so_far ls
+    → IfOk r (λ store. (lines : List (List ℕ)) → HasRead so_far lines → IsKeptLoaded so_far.filter.now lines store) → IfOk r (IsLoaded ls)
+all_stored so_far ls (Ok store) is read h = all_loaded so_far.filter.now ls store is (h ls read)
+all_stored so_far ls (Err e) is read h = tt
+
 -- the terms of the texts, read one after the other, are those that the texts are forms of
-pub terms_are : (ls texts : List (List ℕ)) (numbered : List NumQuad) (read : AreNumbered ls texts numbered) (dict : List Term)
-    → ((terms : List Term) → AreFormsOf terms texts → dict ≡ first_appearances terms) → dict ≡ read.numbered.terms
-terms_are ls texts numbered read dict h =
-    let own = terms_of read.quads in
-    let is = read.numbered.numbered.0 in
-    h read.numbered.terms read.numbered.forms
+pub terms_are : (quads : List QuadParts) (texts : List (List ℕ)) (numbered : List NumQuad) (are : AreNumberedBy quads texts numbered) (dict : List Term)
+    → ((terms : List Term) → AreFormsOf terms texts → dict ≡ first_appearances terms) → dict ≡ are.terms
+terms_are quads texts numbered are dict h =
+    let own = terms_of quads in
+    let is = are.numbered.0 in
+    h are.terms are.forms
     ∙ ap first_appearances (is ∙ sym (append-nil (first_appearances own))) ∙ appearances_front own [] ∙ ap first_appearances (append-nil own) ∙ sym is
 
 pub same_slice : (slice numbered index : List NumQuad) → slice ≡ numbered → IsPermutation (without_repeats quad_eq slice) index → IsPermutation (without_repeats quad_eq numbered) index

@@ -11,6 +11,10 @@ use Rattle.dict_core.specs.Numbered as numbering
 use Rattle.text_pieces.specs.declared.text_piece.TextPiece.{TextPiece}
 use Rattle.text_pieces.specs.Forms.{AreNumberedBy}
 use Rattle.text_pieces.specs.Pieces.{AreGrown, IsPieceOf, IsRead}
+use Rattle.quad_filter.specs.declared.filter.QuadFilter.{QuadFilter}
+use Rattle.quad_filter.specs.Filter.{keeps}
+use Rattle.quad_filter.specs.Kept.{IsKept}
+use Rattle.quad_filter.proofs.KeptLaws.{kept_joins}
 use Rattle.dict_core.specs.declared.num_quad.NumQuad.{NumQuad}
 use Rattle.std.specs.Borrow.{Bor}
 use Rattle.dataset_load.specs.Lines.{all_lines, texts, text_at}
@@ -21,25 +25,29 @@ use Rattle.dataset_load.specs.declared.fault.LoadFault.{LoadFault}
 use Rattle.dataset_load.specs.declared.fault.LoadFault.TheVariants.{BadLine, WorkerRefused, Memory}
 use Rattle.dataset_load.proofs.LineLaws.{statements-append, malformed_after, bad_before}
 
--- the quads of the pieces of a round, that each is numbered, and how many lines they have
-pub record AreRead (dict : List (List ℕ)) (ps : List (List ℕ)) (reads : List TextPiece) : Type 0 where
+-- the quads of the pieces of a round, that each that the filter keeps is numbered, and how many lines they have
+pub record AreRead (filter : QuadFilter) (dict : List (List ℕ)) (ps : List (List ℕ)) (reads : List TextPiece) : Type 0 where
+  pub all : List QuadParts
+  pub statements : HaveStatements (all_lines ps) all
   pub each : List (List QuadParts)
-  pub statements : HaveStatements (all_lines ps) (numbering.joined each)
+  pub kept : IsKept (keeps filter) all (numbering.joined each)
   pub looked_up : ArePiecesOf dict each reads
   pub count : line_total reads ≡ length (all_lines ps)
 
-pub pieces_read : (dict : List (List ℕ)) (ps : List (List ℕ)) (reads : List TextPiece) → length reads ≡ length ps
-    → ((i : ℕ) (d : TextPiece) → i < length ps → IsRead dict (slice_index_or ps i []) (slice_index_or reads i d))
-    → AreRead dict ps reads
-pieces_read dict [] [] e h = record { each = []; statements = refl; looked_up = tt; count = refl }
-pieces_read dict [] (o ∷ os) e h = absurd (omega arith)
-pieces_read dict (p ∷ ps) [] e h = absurd (omega arith)
-pieces_read dict (p ∷ ps) (o ∷ os) e h =
-    let first : IsRead dict p o = h 0 o (omega arith) in
-    let rest : AreRead dict ps os = pieces_read dict ps os (omega arith) (λ i d low. h (suc i) d (omega arith)) in
+pub pieces_read : (filter : QuadFilter) (dict : List (List ℕ)) (ps : List (List ℕ)) (reads : List TextPiece) → length reads ≡ length ps
+    → ((i : ℕ) (d : TextPiece) → i < length ps → IsRead filter dict (slice_index_or ps i []) (slice_index_or reads i d))
+    → AreRead filter dict ps reads
+pieces_read filter dict [] [] e h = record { all = []; statements = refl; each = []; kept = refl; looked_up = tt; count = refl }
+pieces_read filter dict [] (o ∷ os) e h = absurd (omega arith)
+pieces_read filter dict (p ∷ ps) [] e h = absurd (omega arith)
+pieces_read filter dict (p ∷ ps) (o ∷ os) e h =
+    let first : IsRead filter dict p o = h 0 o (omega arith) in
+    let rest : AreRead filter dict ps os = pieces_read filter dict ps os (omega arith) (λ i d low. h (suc i) d (omega arith)) in
     record {
+      all = first.all ++ rest.all;
+      statements = statements-append (lines p) (all_lines ps) first.all rest.all first.statements rest.statements;
       each = first.quads ∷ rest.each;
-      statements = statements-append (lines p) (all_lines ps) first.quads (numbering.joined rest.each) first.statements rest.statements;
+      kept = kept_joins (keeps filter) first.all first.quads rest.all (numbering.joined rest.each) first.kept rest.kept;
       looked_up = (first.numbered, rest.looked_up);
       count = (λ i. first.count i + rest.count i) ∙ sym (length-append (lines p) (all_lines ps));
     }
@@ -63,38 +71,42 @@ bad_piece (x ∷ xs) (suc p) line low h b =
 -- ---- a round after lines that were read
 
 -- the quads of a round, after those of the lines before
-pub round_numbered : (before : List (List ℕ)) (round : List (Bor (List ℕ))) (dict dict' : List (List ℕ)) (numbered numbered' : List NumQuad) (reads : List TextPiece)
-    → AreNumbered before dict numbered → AreRead dict (texts round) reads
+pub round_numbered : (before : List (List ℕ)) (round : List (Bor (List ℕ))) (filter filter' : QuadFilter) (dict dict' : List (List ℕ)) (numbered numbered' : List NumQuad) (reads : List TextPiece)
+    → filter' ≡ filter → AreNumbered filter before dict numbered → AreRead filter dict (texts round) reads
     → ((done : List QuadParts) (each : List (List QuadParts)) → AreNumberedBy done dict numbered → ArePiecesOf dict each reads → AreNumberedBy (done ++ numbering.joined each) dict' numbered')
-    → AreNumbered (before ++ all_lines (texts round)) dict' numbered'
-round_numbered before round dict dict' numbered numbered' reads was r taken = record {
-  quads = was.quads ++ numbering.joined r.each;
-  statements = statements-append before (all_lines (texts round)) was.quads (numbering.joined r.each) was.statements r.statements;
-  numbered = taken was.quads r.each was.numbered r.looked_up;
-}
+    → AreNumbered filter' (before ++ all_lines (texts round)) dict' numbered'
+round_numbered before round filter filter' dict dict' numbered numbered' reads same was r taken =
+    subst (λ (f : QuadFilter). AreNumbered f (before ++ all_lines (texts round)) dict' numbered') (sym same)
+    record {
+      all = was.all ++ r.all;
+      statements = statements-append before (all_lines (texts round)) was.all r.all was.statements r.statements;
+      quads = was.quads ++ numbering.joined r.each;
+      kept = kept_joins (keeps filter) was.all was.quads r.all (numbering.joined r.each) was.kept r.kept;
+      numbered = taken was.quads r.each was.numbered r.looked_up;
+    }
 
-pub round_read : (round : List (Bor (List ℕ))) (dict : List (List ℕ)) (reads : List TextPiece) → length reads ≡ length round
-    → ((i : ℕ) (d : TextPiece) → i < length round → IsRead dict (text_at round i) (slice_index_or reads i d))
-    → AreRead dict (texts round) reads
-round_read round dict reads count each =
+pub round_read : (round : List (Bor (List ℕ))) (filter : QuadFilter) (dict : List (List ℕ)) (reads : List TextPiece) → length reads ≡ length round
+    → ((i : ℕ) (d : TextPiece) → i < length round → IsRead filter dict (text_at round i) (slice_index_or reads i d))
+    → AreRead filter dict (texts round) reads
+round_read round filter dict reads count each =
     let m : length (texts round) ≡ length round = length-map round (λ (piece : Bor (List ℕ)). piece.now) in
-    pieces_read dict (texts round) reads (count ∙ sym m) (λ i d low. each i d (omega arith))
+    pieces_read filter dict (texts round) reads (count ∙ sym m) (λ i d low. each i d (omega arith))
 
 -- the first malformed line of a round, after valid lines
-pub round_bad : (before : List (List ℕ)) (round : List (Bor (List ℕ))) (dict old : List (List ℕ)) (numbered : List NumQuad) (count p line n : ℕ)
-    → AreNumbered before old numbered → count ≡ length before → p < length round
-    → ((i : ℕ) → i < p → (read : TextPiece) × IsRead dict (text_at round i) read)
+pub round_bad : (before : List (List ℕ)) (round : List (Bor (List ℕ))) (filter : QuadFilter) (dict old : List (List ℕ)) (numbered : List NumQuad) (count p line n : ℕ)
+    → AreNumbered filter before old numbered → count ≡ length before → p < length round
+    → ((i : ℕ) → i < p → (read : TextPiece) × IsRead filter dict (text_at round i) read)
     → IsFirstMalformed (lines (text_at round p)) line
     → n ≡ count + (length (all_lines (texts (take p round))) + line + 1)
     → IsBadLine (before ++ all_lines (texts round)) n
-round_bad before round dict old numbered count p line n was counted low returned bad value =
+round_bad before round filter dict old numbered count p line n was counted low returned bad value =
     let now = λ (piece : Bor (List ℕ)). piece.now in
     let m : length (texts round) ≡ length round = length-map round now in
     let t : length (all_lines (texts (take p round))) ≡ length (all_lines (take p (texts round))) =
     ap (λ (ps : List (List ℕ)). length (all_lines ps)) (sym (take-map now p round)) in
-    let b = bad_piece (texts round) p line (omega arith) (λ i less. let a = returned i less in (a.1.quads, a.1.statements)) bad in (
+    let b = bad_piece (texts round) p line (omega arith) (λ i less. let a = returned i less in (a.1.all, a.1.statements)) bad in (
       length before + (length (all_lines (take p (texts round))) + line),
-      malformed_after before (all_lines (texts round)) was.quads _ was.statements b,
+      malformed_after before (all_lines (texts round)) was.all _ was.statements b,
       omega (arith, value, counted, t),
     )
 

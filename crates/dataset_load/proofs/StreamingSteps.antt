@@ -24,12 +24,13 @@ use Rattle.dataset_load.specs.Limits.{most_pieces_of_a_round}
 use Rattle.dataset_load.specs.Lines.{AreWholeLines, EachEnds, all_lines, joined}
 use Rattle.dataset_load.specs.declared.bad_round.BadRound.{BadRound}
 use Rattle.dataset_load.specs.BadRounds.{IsBadList, IsBadRound, IsReady}
-use Rattle.dataset_load.specs.Loaded.{IsLoaded}
+use Rattle.quad_filter.specs.declared.filter.QuadFilter.{QuadFilter}
+use Rattle.dataset_load.specs.Loaded.{IsKeptLoaded}
 use Rattle.dataset_load.specs.Store.{StoreView}
 use Rattle.dataset_load.specs.Rounds.{HasRead}
 use Rattle.dataset_load.specs.ReaderFault.{CountsLoading, IfBadLineRead}
 use Rattle.dataset_load.specs.FaultNames.{fault_of_load, fault_of_read}
-use Rattle.dataset_load.specs.Streaming.{IsBadLineFrom, IsLoadedFrom}
+use Rattle.dataset_load.specs.Streaming.{IsBadLineFrom, IsKeptLoadedFrom}
 use Rattle.dataset_load.specs.ReadSoFar.{IsBadSoFar, IsReadFrom, IsReadIn, IsReadUpTo, IsToEnd, IsUpTo, TakesRest, TakesRound}
 use Rattle.dataset_load.specs.declared.reader.RoundBlocks.{RoundBlocks}
 use Rattle.dataset_load.specs.Ahead.{IsAhead, IsNextRound, IsReadAhead, IsSpent, Spends, texts_of}
@@ -331,7 +332,7 @@ module _ (b c : Option (List ℕ)) (kept kept' : List ℕ) (so_far : Numbered) (
       record {
         so_far = bad_ahead (HasRead so_far) start b c kept round was n (λ last. (ended last).1) taken has_bad;
         before = lines was.done;
-        quads = was.read.numbered.quads;
+        quads = was.read.numbered.all;
         statements = was.read.numbered.statements;
         count = before_is ∙ was.read.count;
         within = within start was bad.next (spent_after b c kept kept' round next bad.next ended filled next_is);
@@ -418,9 +419,14 @@ bad_from a b c n was rest end = by was.rest
       bad = was.bad;
     }
 
-pub loaded_from : (a b : Option (List ℕ)) (so_far : Numbered) (store : StoreView) → IsReadFrom a b so_far
-    → ((ls : List (List ℕ)) → HasRead so_far ls → IsLoaded ls store) → IsLoadedFrom a b store
-loaded_from a b so_far store was load = record { doc = was.doc; consumed = was.consumed; at_end = was.at_end; loaded = load (lines was.doc) was.read }
+pub loaded_from : (filter : QuadFilter) (a b : Option (List ℕ)) (so_far : Numbered) (store : StoreView) → so_far.filter.now ≡ filter → IsReadFrom a b so_far
+    → ((ls : List (List ℕ)) → HasRead so_far ls → IsKeptLoaded so_far.filter.now ls store) → IsKeptLoadedFrom filter a b store
+loaded_from filter a b so_far store same was load = record {
+  doc = was.doc;
+  consumed = was.consumed;
+  at_end = was.at_end;
+  loaded = subst (λ (f : QuadFilter). IsKeptLoaded f (lines was.doc) store) same (load (lines was.doc) was.read);
+}
 
 -- ---- the count of failures
 

@@ -6,6 +6,9 @@ use Rattle.nquads_core.specs.Pieces.{HaveStatements, IsFirstMalformed}
 use Rattle.algebra_model.specs.Bag.{IsWithoutRepeats, without_repeats}
 use Rattle.dict_core.specs.declared.num_quad.NumQuad.{NumQuad}
 use Rattle.dict_core.specs.Equality.{quad_eq}
+use Rattle.quad_filter.specs.declared.filter.QuadFilter.{QuadFilter}
+use Rattle.quad_filter.specs.Filter.{keeps}
+use Rattle.quad_filter.specs.Kept.{IsKept}
 use Rattle.quad_index.specs.declared.sort_order.SortOrder.{SortOrder}
 use Rattle.quad_index.specs.declared.sort_order.SortOrder.TheVariants.{Gspo, Gpos, Gosp}
 use Rattle.quad_index.specs.SortOrder.{order_cmp}
@@ -23,15 +26,18 @@ abbrev pub line_total : List TextPiece → ℕ
 line_total [] = 0
 line_total (piece ∷ pieces) = piece.lines + line_total pieces
 
--- the lines are valid, and their quads are numbered by a dictionary with these texts
-pub record AreNumbered (lines texts : List (List ℕ)) (numbers : List NumQuad) : Type 0 where
+-- The lines are valid, and the quads of them that the filter keeps, and perhaps others of them, are numbered by a dictionary
+-- with these texts.
+pub record AreNumbered (filter : QuadFilter) (lines texts : List (List ℕ)) (numbers : List NumQuad) : Type 0 where
+  pub all : List QuadParts
+  pub statements : HaveStatements lines all
   pub quads : List QuadParts
-  pub statements : HaveStatements lines quads
+  pub kept : IsKept (keeps filter) all quads
   pub numbered : AreNumberedBy quads texts numbers
 
--- the quads of these lines are numbered, and the lines are counted
+-- The quads of these lines that the filter keeps are numbered, and perhaps others of them; and the lines are counted.
 pub record HasRead (so_far : Numbered) (ls : List (List ℕ)) : Type 0 where
-  pub numbered : AreNumbered ls so_far.dict.texts so_far.quads.items
+  pub numbered : AreNumbered so_far.filter.now ls so_far.dict.texts so_far.quads.items
   pub count : so_far.lines ≡ length ls
 
 -- the order of the i-th list of an index

@@ -7,7 +7,7 @@ ghost use Rattle.piece_pool.specs.Outcome.{IsPoolOutcome};
 ghost use Rattle.text_pieces.specs.Forms.{AreFormsOf};
 ghost use Rattle.dataset_load.specs.Building.{IsBuilt, lists_in, terms_in};
 ghost use Rattle.dataset_load.specs.Fault.{IfBadLine, IsOneWorkerLoadFault};
-ghost use Rattle.dataset_load.specs.Loaded.{IsLoaded};
+ghost use Rattle.dataset_load.specs.Loaded.{IsKeptLoaded};
 ghost use Rattle.dataset_load.specs.Rounds.{AreSortedLists, HasRead};
 ghost use Rattle.dataset_load.specs.Terms.{AreTermParts};
 
@@ -95,12 +95,13 @@ fn build(
 pub(crate) fn store_of<R: Threads + Wait + RandomSource>(
     rt: &R,
     alloc: Global,
-    so_far: Numbered,
+    so_far: Numbered<'_>,
     workers: usize,
 ) -> Result<Store, LoadFault>
     requires workers { (1 ≤ workers) × (workers ≤ most_workers) }
     requires read { (lines : _) × HasRead so_far lines }
-    ensures loaded { IfOk result (λ store. (lines : _) → HasRead so_far lines → IsLoaded lines store) }
+    ensures loaded { IfOk result (λ store. (lines : _) → HasRead so_far.entry lines
+        → IsKeptLoaded so_far.entry.filter.now lines store) }
     ensures no_bad_line { IfErr result (IfBadLine (λ _. ⊥)) }
     ensures one_worker { workers ≡ 1 → IfErr result IsOneWorkerLoadFault }
 {

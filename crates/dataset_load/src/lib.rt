@@ -11,11 +11,12 @@
 //!
 //! Standards: RDF 1.1 N-Quads, grammar; RDF 1.1 Concepts and Abstract Syntax, section 4.
 //!
-//! [`load_reader`] loads the rest of a reader. Its result is that of [`read_blocks`] followed by
-//! [`load_blocks`] (`IsLoadedFrom`, `IsBadLineFrom` in specs/Streaming.antt). Only the blocks of two rounds
-//! are in memory at a time: one that is parsed, and the next one. [`count_reader`] returns only the
-//! dictionary and the counts of that store, and [`load_terms`] only the dictionary. Neither builds an
-//! index (`IsCountedFrom`, `AreTermsFrom` in specs/Counted.antt).
+//! [`load_reader`] loads the rest of a reader. With a filter that keeps all quads, its result is that of [`read_blocks`]
+//! followed by [`load_blocks`]. With another filter, the store may lack quads that it does not keep. Every line is still
+//! validated (`IsKeptLoadedFrom`, `IsBadLineFrom` in specs/Streaming.antt). Only the blocks of two rounds are in memory at
+//! a time: one that is parsed, and the next one. [`count_reader`] returns only the dictionary and the counts of the store of
+//! all quads, and [`load_terms`] only the dictionary. Neither builds an index (`IsCountedFrom`, `AreTermsFrom` in
+//! specs/Counted.antt).
 //!
 //! Reading order: `fault`, `store`, `round_job` (one piece), `numbered` and `rounds`
 //! (all pieces), `sorting` (the lists of the index), `terms` (the terms of the texts), `building` (a store), `loading`,

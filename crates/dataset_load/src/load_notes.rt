@@ -1,4 +1,4 @@
-//! Notes that loading takes for the messages about a failure, and who is told of the first malformed line and of failures.
+//! Notes that loading takes for messages, and who is told of the first malformed line and of failures.
 ghost use Rattle.piece_pool.specs.declared.pool.PoolFault.{PoolFault};
 
 use malformed_lines::{MalformedLine, MalformedLines};
@@ -17,13 +17,17 @@ pub struct Listing {
     pub is_after_utf8: bool,
 }
 
-/// Notes that loading takes for the messages about a failure.
+/// Notes that loading takes for messages: about a failure, and about the graphs of the document.
 #[derive(Drop)]
 pub struct LoadNotes {
     /// The malformed lines, if the result is the number of the first.
     pub malformed: Option<Listing>,
     /// Whether all lines were read, so that only sorting was left.
     pub is_read: bool,
+    /// Whether the document has a quad in the default graph. Known once all lines were read. The filter plays no part.
+    pub has_default: bool,
+    /// Whether the document has a quad in a named graph, likewise.
+    pub has_named: bool,
 }
 
 impl LoadNotes {
@@ -32,6 +36,8 @@ impl LoadNotes {
         LoadNotes {
             malformed: None,
             is_read: false,
+            has_default: false,
+            has_named: false,
         }
     }
 }

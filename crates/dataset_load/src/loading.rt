@@ -15,6 +15,7 @@ use crate::store::Store;
 use piece_cuts::Cuts;
 use piece_cuts::laws::pieces_are_the_document;
 use piece_pool::Gate;
+use quad_filter::QuadFilter;
 use std::alloc::{AllocError, Global};
 use std::hash::RandomState;
 use std::random::RandomSource;
@@ -93,8 +94,9 @@ fn load_pieces<R: Threads + Wait + RandomSource, G: Gate + Sync>(
     ensures bad_line { IfErr result (IfBadLine (IsBadLine (all_lines (texts pieces.now)))) }
     ensures one_worker { workers ≡ 1 → IfErr result IsOneWorkerLoadFault }
 {
+    let filter = QuadFilter::All;
     let state = hash_state(rt)?;
-    let so_far = number_pieces(rt, alloc, state, pieces, workers, gate)?;
+    let so_far = number_pieces(rt, alloc, state, pieces, &filter, workers, gate)?;
     store_of(rt, alloc, so_far, workers)
 }
 

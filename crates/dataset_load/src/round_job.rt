@@ -8,16 +8,18 @@ ghost use Rattle.dataset_load.specs.Lines.{text_at};
 
 use nquads_core::PieceFault;
 use piece_pool::{Job, JobFault};
+use quad_filter::QuadFilter;
 use std::alloc::Global;
 use std::hash::RandomState;
 use text_dict::TextDict;
 use text_pieces::{TextPiece, read_lines};
 
-/// The pieces of a round, each to be read and looked up in the dictionary of the rounds before.
+/// The pieces of a round, each to be read through the filter and looked up in the dictionary of the rounds before.
 #[derive(Drop)]
 pub(crate) struct RoundJob<'d> {
     pub(crate) pieces: &'d [&'d [u8]],
     pub(crate) dict: &'d TextDict,
+    pub(crate) filter: &'d QuadFilter,
     pub(crate) state: RandomState,
 }
 
@@ -32,12 +34,19 @@ impl<'d> Job for RoundJob<'d> {
 
     type Fault = u64;
 
-    ghost answers = { λ job i out. IsRead job.dict.now.texts (text_at job.pieces.now i) out };
+    ghost answers = { λ job i out.
+        IsRead job.filter.now job.dict.now.texts (text_at job.pieces.now i) out };
 
     ghost faults = { λ job i line. IsFirstMalformed (lines (text_at job.pieces.now i)) line };
 
     fn run(&self, alloc: Global, i: u64) -> Result<TextPiece, JobFault<u64>> {
-        read_against(alloc, self.state, self.dict, piece_at(self.pieces, i))
+        read_against(
+            alloc,
+            self.state,
+            self.dict,
+            self.filter,
+            piece_at(self.pieces, i),
+        )
     }
 
     ghost exclusive = { λ job i out line read bad. not_both _ _ _ read.statements bad };
@@ -59,12 +68,13 @@ fn read_against(
     alloc: Global,
     state: RandomState,
     dict: &TextDict,
+    filter: &QuadFilter,
     bytes: &[u8],
 ) -> Result<TextPiece, JobFault<u64>>
-    ensures read { IfOk result (IsRead dict.now.texts bytes.now) }
+    ensures read { IfOk result (IsRead filter.now dict.now.texts bytes.now) }
     ensures bad { IfErr result (IfOwn (IsFirstMalformed (lines bytes.now))) }
 {
-    match read_lines(alloc, state, dict, bytes) {
+    match read_lines(alloc, state, dict, filter, bytes) {
         Ok(piece) => Ok(piece),
         Err(PieceFault::BadLine(line)) => Err(JobFault::Own(line)),
         Err(PieceFault::Memory) => Err(JobFault::Memory),

@@ -27,12 +27,13 @@ use crate::round_job::RoundJob;
 use dict_core::NumQuad;
 use nquads_core::count_lines;
 use piece_pool::{Gate, OffsetGate, Outcome, PoolFault, run_all_with};
+use quad_filter::QuadFilter;
 use std::alloc::{AllocError, Global};
 use std::hash::RandomState;
 use std::sync::Wait;
 use std::thread::Threads;
 use text_dict::TextDict;
-use text_pieces::{TextPiece, add_piece};
+use text_pieces::{Seen, TextPiece, add_piece};
 
 /// The least number of pieces of a round for each of several workers, except in the last round.
 const PIECES_A_WORKER: usize = 16;
@@ -46,27 +47,29 @@ const BYTES_OF_ONE_WORKER: usize = 1 << 16;
 /// The largest number of pieces of a round.
 pub(crate) const PIECES_A_ROUND: usize = 1 << 20;
 
-/// Reads all pieces, round by round. Returns their terms by first appearance, their quads by number, in
-/// order, and the number of their lines.
+/// Reads all pieces, round by round. Returns the quads that the filter keeps by number, in order, their terms by first
+/// appearance, and the number of the lines of the pieces. Other quads of the pieces may be among these.
 ///
 /// # Errors
 /// - `BadLine(n)` if the line, counted from 1 over all pieces, is the first that is malformed.
 /// - `WorkerRefused` and `Memory` as in a pool. With one worker the first cannot occur.
-pub(crate) fn number_pieces<R: Threads + Wait, G: Gate + Sync>(
+pub(crate) fn number_pieces<'f, R: Threads + Wait, G: Gate + Sync>(
     rt: &R,
     alloc: Global,
     state: RandomState,
     pieces: &[&[u8]],
+    filter: &'f QuadFilter,
     workers: usize,
     gate: &G,
-) -> Result<Numbered, LoadFault>
+) -> Result<Numbered<'f>, LoadFault>
     requires workers { (1 ≤ workers) × (workers ≤ most_workers) }
     ensures numbered { IfOk result (λ so_far. HasRead so_far (all_lines (texts pieces.now))) }
+    ensures filter { IfOk result (λ so_far. so_far.filter.now ≡ filter.now) }
     ensures bad_line { IfErr result (IfBadLine (IsBadLine (all_lines (texts pieces.now)))) }
     ensures one_worker { workers ≡ 1 → IfErr result IsOneWorkerLoadFault }
 {
     let context = LoadContext { rt, alloc, workers };
-    let mut so_far = Numbered::new(alloc, state);
+    let mut so_far = Numbered::new(alloc, state, filter);
     let mut from = 0;
     while from < pieces.len() {
         let to = round_end(pieces, from, workers);
@@ -98,7 +101,7 @@ pub(crate) fn number_pieces<R: Threads + Wait, G: Gate + Sync>(
 pub(crate) fn add_round<R: Threads + Wait, G: Gate + Sync, L: LoadListener, F: FnMut() -> T, T>(
     context: &LoadContext<'_, R>,
     state: RandomState,
-    so_far: &mut Numbered,
+    so_far: &mut Numbered<'_>,
     pieces: &[&[u8]],
     gate: &G,
     listener: &L,
@@ -111,13 +114,15 @@ pub(crate) fn add_round<R: Threads + Wait, G: Gate + Sync, L: LoadListener, F: F
         → HasRead so_far.new (before ++ all_lines (texts pieces.now))) }
     ensures counted { OnOk result.0
         (so_far.new.lines ≤ so_far.old.lines + length pieces.now * (2 ^ 64 - 1)) }
+    ensures filter { so_far.new.filter.now ≡ so_far.old.filter.now }
     ensures bad_line { IfErr result.0 (IfBadLine (λ n. (before : _) → HasRead so_far.old before
         → IsBadLine (before ++ all_lines (texts pieces.now)) n)) }
     ensures one_worker { context.now.workers ≡ 1 → IfErr result.0 IsOneWorkerLoadFault }
     ensures cause { IfErr result.0 (IsLoadFailed L.fails) }
     ensures task { F.step task.old result.1 task.new }
 {
-    let (outcome, given) = read_round(context, state, pieces, &so_far.dict, gate, task);
+    let filter = so_far.filter;
+    let (outcome, given) = read_round(context, state, pieces, &so_far.dict, filter, gate, task);
     let alloc = context.alloc;
     (add_outcome(alloc, listener, so_far, pieces, outcome), given)
 }
@@ -129,13 +134,14 @@ fn read_round<R: Threads + Wait, G: Gate + Sync, F: FnMut() -> T, T>(
     state: RandomState,
     pieces: &[&[u8]],
     dict: &TextDict,
+    filter: &QuadFilter,
     gate: &G,
     task: &mut F,
 ) -> (Result<Outcome<TextPiece, u64>, PoolFault>, T)
     requires pieces { length pieces.now ≤ most_pieces }
     requires task { F.pre task.old }
     ensures outcome { IfOk result.0
-        (IsPoolOutcome (λ i out. IsRead dict.now.texts (text_at pieces.now i) out)
+        (IsPoolOutcome (λ i out. IsRead filter.now dict.now.texts (text_at pieces.now i) out)
         (λ i line. IsFirstMalformed (lines (text_at pieces.now i)) line) (length pieces.now)) }
     ensures one_worker { context.now.workers ≡ 1 → IfErr result.0 (λ fault. fault ≡ Memory) }
     ensures task { F.step task.old result.1 task.new }
@@ -143,6 +149,7 @@ fn read_round<R: Threads + Wait, G: Gate + Sync, F: FnMut() -> T, T>(
     let job = RoundJob {
         pieces,
         dict,
+        filter,
         state,
     };
     let (rt, alloc, workers) = (context.rt, context.alloc, context.workers);
@@ -153,19 +160,21 @@ fn read_round<R: Threads + Wait, G: Gate + Sync, F: FnMut() -> T, T>(
 fn add_outcome<L: LoadListener>(
     alloc: Global,
     listener: &L,
-    so_far: &mut Numbered,
+    so_far: &mut Numbered<'_>,
     pieces: &[&[u8]],
     outcome: Result<Outcome<TextPiece, u64>, PoolFault>,
 ) -> Result<(), LoadFault>
     requires pieces { length pieces.now ≤ most_pieces_of_a_round }
     requires countable { so_far.old.lines ≤ 2 ^ 127 }
     requires outcome { IfOk outcome
-        (IsPoolOutcome (λ i out. IsRead so_far.old.dict.texts (text_at pieces.now i) out)
+        (IsPoolOutcome
+        (λ i out. IsRead so_far.old.filter.now so_far.old.dict.texts (text_at pieces.now i) out)
         (λ i line. IsFirstMalformed (lines (text_at pieces.now i)) line) (length pieces.now)) }
     ensures numbered { OnOk result ((before : _) → HasRead so_far.old before
         → HasRead so_far.new (before ++ all_lines (texts pieces.now))) }
     ensures counted { OnOk result
         (so_far.new.lines ≤ so_far.old.lines + length pieces.now * (2 ^ 64 - 1)) }
+    ensures filter { so_far.new.filter.now ≡ so_far.old.filter.now }
     ensures bad_line { IfErr result (IfBadLine (λ n. (before : _) → HasRead so_far.old before
         → IsBadLine (before ++ all_lines (texts pieces.now)) n)) }
     ensures one_worker { IfErr outcome (λ fault. fault ≡ Memory)
@@ -233,7 +242,7 @@ fn part<'p, 'd>(pieces: &'p [&'d [u8]], from: usize, to: usize) -> &'p [&'d [u8]
 /// Adds the pieces of a round to what was read before.
 fn add_read_pieces(
     alloc: Global,
-    so_far: &mut Numbered,
+    so_far: &mut Numbered<'_>,
     pieces: Vec<TextPiece>,
 ) -> Result<(), AllocError>
     requires pieces { length pieces.items ≤ most_pieces_of_a_round }
@@ -246,11 +255,25 @@ fn add_read_pieces(
         (so_far.new.lines ≡ so_far.old.lines + line_total pieces.items) }
     ensures counted { OnOk result
         (so_far.new.lines ≤ so_far.old.lines + length pieces.items * (2 ^ 64 - 1)) }
+    ensures filter { so_far.new.filter.now ≡ so_far.old.filter.now }
 {
     let lines = count_read(pieces.as_slice());
+    let seen = seen_in(so_far.seen, pieces.as_slice());
     add_pieces(alloc, &mut so_far.dict, &mut so_far.quads, pieces)?;
     so_far.lines += lines;
+    so_far.seen = seen;
     Ok(())
+}
+
+/// Returns what the pieces before and these have.
+fn seen_in(before: Seen, pieces: &[TextPiece]) -> Seen {
+    let mut seen = before;
+    for piece in pieces {
+        seen.default_graph |= piece.seen.default_graph;
+        seen.named_graph |= piece.seen.named_graph;
+        seen.lacks_beyond_ascii |= piece.seen.lacks_beyond_ascii;
+    }
+    seen
 }
 
 /// Adds the pieces of a round, one after the other.

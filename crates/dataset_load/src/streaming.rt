@@ -10,7 +10,7 @@ ghost use Rattle.dataset_load.specs.Limits.{most_pieces_of_a_round};
 ghost use Rattle.dataset_load.specs.Lines.{all_lines, block_texts};
 ghost use Rattle.dataset_load.specs.Rounds.{HasRead};
 ghost use Rattle.dataset_load.specs.ReaderFault.{CountsLoading, IfBadLineRead, IsOneWorkerReaderFault};
-ghost use Rattle.dataset_load.specs.Streaming.{IsBadLineFrom, IsLoadedFrom};
+ghost use Rattle.dataset_load.specs.Streaming.{IsBadLineFrom, IsKeptLoadedFrom};
 ghost use Rattle.dataset_load.specs.ReadSoFar.{IsReadFrom, IsReadUpTo};
 ghost use Rattle.dataset_load.specs.Ahead.{IsReadAhead, Spends};
 ghost use Rattle.dataset_load.specs.Causes.{IsCaused, IsStopped};
@@ -35,6 +35,7 @@ use crate::store::Store;
 use nquads_core::{ReadFault, Source};
 use piece_cuts::{BlockState, Blocks};
 use piece_pool::{Gate, PoolFault};
+use quad_filter::QuadFilter;
 use std::alloc::{AllocError, Global};
 use std::hash::RandomState;
 use std::random::RandomSource;
@@ -44,14 +45,17 @@ use text_dict::TextDict;
 
 /// What reading begins with.
 #[derive(Drop)]
-struct Fresh {
+struct Fresh<'f> {
     state: RandomState,
-    so_far: Numbered,
+    so_far: Numbered<'f>,
     blocks: Blocks,
 }
 
 /// Loads the rest of a reader, as `load_blocks` does after `read_blocks`. Only the blocks of two rounds are in
-/// memory at a time: one that is parsed, and the next one. `notes` gets what a message about a failure shows.
+/// memory at a time: one that is parsed, and the next one. `notes` gets what messages show.
+///
+/// The store has the quads that `filter` keeps, and may lack each other quad. Every line is validated, also one
+/// whose quad is left out.
 ///
 /// # Requires
 /// `size` is 1 or more, and `workers` is 1 to 64.
@@ -71,6 +75,7 @@ pub fn load_reader<R: Threads + Wait + RandomSource, S: Source, G: Gate + Sync, 
     alloc: Global,
     size: usize,
     reader: &mut S,
+    filter: &QuadFilter,
     workers: usize,
     gate: &G,
     notes: &mut LoadNotes,
@@ -78,7 +83,8 @@ pub fn load_reader<R: Threads + Wait + RandomSource, S: Source, G: Gate + Sync, 
 ) -> Result<Store, ReaderFault>
     requires some { 1 ≤ size }
     requires workers { (1 ≤ workers) × (workers ≤ most_workers) }
-    ensures loaded { IfOk result (IsLoadedFrom (S.left reader.old) (S.left reader.new)) }
+    ensures loaded { IfOk result
+        (IsKeptLoadedFrom filter.now (S.left reader.old) (S.left reader.new)) }
     ensures bad_line { IfErr result
         (IfBadLineRead (IsBadLineFrom (S.left reader.old) (S.left reader.new))) }
     ensures listed { IfErr result (IfBadLineRead
@@ -91,7 +97,7 @@ pub fn load_reader<R: Threads + Wait + RandomSource, S: Source, G: Gate + Sync, 
         (λ _. IsStopped L.fails (S.left reader.old) notes.new.malformed)) }
 {
     let context = LoadContext { rt, alloc, workers };
-    let so_far = read_reader(&context, size, reader, gate, notes, listener)?;
+    let so_far = read_reader(&context, size, reader, filter, gate, notes, listener)?;
     match store_of(rt, alloc, so_far, workers) {
         Ok(store) => Ok(store),
         Err(fault) => Err(load_failed(listener, fault)),
@@ -131,7 +137,8 @@ pub fn count_reader<R: Threads + Wait + RandomSource, S: Source, G: Gate + Sync,
         (λ _. IsStopped L.fails (S.left reader.old) notes.new.malformed)) }
 {
     let context = LoadContext { rt, alloc, workers };
-    let so_far = read_reader(&context, size, reader, gate, notes, listener)?;
+    let filter = QuadFilter::All;
+    let so_far = read_reader(&context, size, reader, &filter, gate, notes, listener)?;
     match counted_of(rt, alloc, so_far, workers) {
         Ok(counted) => Ok(counted),
         Err(fault) => Err(load_failed(listener, fault)),
@@ -170,22 +177,26 @@ pub fn load_terms<R: Threads + Wait + RandomSource, S: Source, G: Gate + Sync, L
         (λ _. IsStopped L.fails (S.left reader.old) notes.new.malformed)) }
 {
     let context = LoadContext { rt, alloc, workers };
-    let so_far = read_reader(&context, size, reader, gate, notes, listener)?;
+    let filter = QuadFilter::All;
+    let so_far = read_reader(&context, size, reader, &filter, gate, notes, listener)?;
     let Numbered { dict, .. } = so_far;
     Ok(dict)
 }
 
-/// Reads a reader to its end, and numbers the quads of its lines. After a malformed line it lists the malformed lines.
-fn read_reader<R: Threads + Wait + RandomSource, S: Source, G: Gate + Sync, L: LoadListener>(
+/// Reads a reader to its end, and numbers the quads of its lines that the filter keeps. After a malformed line it lists the
+/// malformed lines.
+fn read_reader<'f, R: Threads + Wait + RandomSource, S: Source, G: Gate + Sync, L: LoadListener>(
     context: &LoadContext<'_, R>,
     size: usize,
     reader: &mut S,
+    filter: &'f QuadFilter,
     gate: &G,
     notes: &mut LoadNotes,
     listener: &L,
-) -> Result<Numbered, ReaderFault>
+) -> Result<Numbered<'f>, ReaderFault>
     requires some { 1 ≤ size }
     ensures read { IfOk result (IsReadFrom (S.left reader.old) (S.left reader.new)) }
+    ensures filter { IfOk result (λ so_far. so_far.filter.now ≡ filter.now) }
     ensures bad_line { IfErr result
         (IfBadLineRead (IsBadLineFrom (S.left reader.old) (S.left reader.new))) }
     ensures listed { IfErr result (IfBadLineRead
@@ -197,7 +208,7 @@ fn read_reader<R: Threads + Wait + RandomSource, S: Source, G: Gate + Sync, L: L
     ensures stopped { IfErr result (IfBadLineRead
         (λ _. IsStopped L.fails (S.left reader.old) notes.new.malformed)) }
 {
-    let Ok(fresh) = nothing_read(context.rt, context.alloc, size) else {
+    let Ok(fresh) = nothing_read(context.rt, context.alloc, size, filter) else {
         listener.failed(PoolFault::Memory);
         return Err(ReaderFault::Memory);
     };
@@ -217,6 +228,8 @@ fn read_reader<R: Threads + Wait + RandomSource, S: Source, G: Gate + Sync, L: L
     ) {
         Ok(()) => {
             notes.is_read = true;
+            notes.has_default = so_far.seen.default_graph;
+            notes.has_named = so_far.seen.named_graph;
             Ok(so_far)
         }
         Err(ReaderFault::BadLine(line)) => {
@@ -244,7 +257,7 @@ fn list_malformed<R: Threads + Wait, S: Source, L: LoadListener>(
     context: &LoadContext<'_, R>,
     line: u128,
     bad: BadRound,
-    so_far: Numbered,
+    so_far: Numbered<'_>,
     blocks: &mut Blocks,
     reader: &mut S,
     notes: &mut LoadNotes,
@@ -256,7 +269,7 @@ fn list_malformed<R: Threads + Wait, S: Source, L: LoadListener>(
     ensures count { CountsLoading {T = ℕ} (S.failures reader.old) (S.failures reader.new) (Err result) }
     ensures one_worker { IsOneWorkerReaderFault result }
 {
-    let is_after_utf8 = bad.is_after_utf8(&so_far.dict, line);
+    let is_after_utf8 = so_far.seen.lacks_beyond_ascii || bad.is_after_utf8(&so_far.dict, line);
     drop(so_far);
     match list_rest(context, bad, is_after_utf8, blocks, reader, notes, listener) {
         Ok(()) => ReaderFault::BadLine(line),
@@ -265,10 +278,16 @@ fn list_malformed<R: Threads + Wait, S: Source, L: LoadListener>(
 }
 
 /// Creates the state in which nothing is read.
-fn nothing_read<R: RandomSource>(rt: &R, alloc: Global, size: usize) -> Result<Fresh, AllocError>
+fn nothing_read<'f, R: RandomSource>(
+    rt: &R,
+    alloc: Global,
+    size: usize,
+    filter: &'f QuadFilter,
+) -> Result<Fresh<'f>, AllocError>
     requires some { 1 ≤ size }
     ensures none { IfOk result (λ fresh. HasRead fresh.so_far []) }
     ensures no_lines { IfOk result (λ fresh. fresh.so_far.lines ≡ 0) }
+    ensures filter { IfOk result (λ fresh. fresh.so_far.filter.now ≡ filter.now) }
     ensures blocks { IfOk result (λ fresh.
         fresh.blocks ≡ record { size = size; kept = []; state = BlockState.Reading }) }
 {
@@ -276,7 +295,7 @@ fn nothing_read<R: RandomSource>(rt: &R, alloc: Global, size: usize) -> Result<F
     let blocks = Blocks::new(alloc, size)?;
     Ok(Fresh {
         state,
-        so_far: Numbered::new(alloc, state),
+        so_far: Numbered::new(alloc, state, filter),
         blocks,
     })
 }
@@ -285,7 +304,7 @@ fn nothing_read<R: RandomSource>(rt: &R, alloc: Global, size: usize) -> Result<F
 fn number_rounds<R: Threads + Wait, S: Source, G: Gate + Sync, L: LoadListener>(
     context: &LoadContext<'_, R>,
     state: RandomState,
-    so_far: &mut Numbered,
+    so_far: &mut Numbered<'_>,
     blocks: &mut Blocks,
     reader: &mut S,
     reading: &mut ReadState<'_, G, L>,
@@ -294,6 +313,7 @@ fn number_rounds<R: Threads + Wait, S: Source, G: Gate + Sync, L: LoadListener>(
     requires none { so_far.old.lines ≡ 0 }
     requires start { IsReadUpTo (S.left reader.old) (S.left reader.old) blocks.old.kept so_far.old }
     ensures read { OnOk result (IsReadFrom (S.left reader.old) (S.left reader.new) so_far.new) }
+    ensures filter { so_far.new.filter.now ≡ so_far.old.filter.now }
     ensures bad_round { IfErr result (IfBadLineRead (λ n. IsSomeAnd reading.new.bad
         (λ bad. IsReady blocks.new bad × IsBadRound (S.left reader.old) (S.left reader.new)
         blocks.new.kept n bad))) }
@@ -321,7 +341,7 @@ fn number_rounds<R: Threads + Wait, S: Source, G: Gate + Sync, L: LoadListener>(
 fn number_round<R: Threads + Wait, S: Source, G: Gate + Sync, L: LoadListener>(
     context: &LoadContext<'_, R>,
     state: RandomState,
-    so_far: &mut Numbered,
+    so_far: &mut Numbered<'_>,
     blocks: &mut Blocks,
     reader: &mut S,
     reading: &mut ReadState<'_, G, L>,
@@ -333,6 +353,7 @@ fn number_round<R: Threads + Wait, S: Source, G: Gate + Sync, L: LoadListener>(
     ensures reading { IfOk result (λ next. IfSome next
         (λ round. round.is_last ≡ false → blocks.new.state ≡ BlockState.Reading)) }
     ensures counted { OnOk result (so_far.new.lines ≤ so_far.old.lines + 2 ^ 84) }
+    ensures filter { so_far.new.filter.now ≡ so_far.old.filter.now }
     ensures read { IfOk result (λ next. (start : _)
         → IsReadAhead start (S.left reader.old) blocks.old.kept so_far.old round
         → MatchOption next (IsReadFrom start (S.left reader.new) so_far.new)
@@ -416,7 +437,7 @@ fn end_round<G, L: LoadListener>(
 fn add_blocks<R: Threads + Wait, G: Gate + Sync, L: LoadListener, F: FnMut() -> T, T>(
     context: &LoadContext<'_, R>,
     state: RandomState,
-    so_far: &mut Numbered,
+    so_far: &mut Numbered<'_>,
     blocks: &[Vec<u8>],
     reading: &mut ReadState<'_, G, L>,
     task: &mut F,
@@ -427,6 +448,7 @@ fn add_blocks<R: Threads + Wait, G: Gate + Sync, L: LoadListener, F: FnMut() -> 
     ensures numbered { OnOk result.0 ((before : _) → HasRead so_far.old before
         → HasRead so_far.new (before ++ all_lines (block_texts blocks.now))) }
     ensures counted { OnOk result.0 (so_far.new.lines ≤ so_far.old.lines + 2 ^ 84) }
+    ensures filter { so_far.new.filter.now ≡ so_far.old.filter.now }
     ensures bad_line { IfErr result.0 (IfBadLine (λ n. (before : _) → HasRead so_far.old before
         → IsBadLine (before ++ all_lines (block_texts blocks.now)) n)) }
     ensures one_worker { context.now.workers ≡ 1 → IfErr result.0 IsOneWorkerLoadFault }

@@ -1,4 +1,4 @@
-use Rattle.std.proofs.Common.{ℕ, List, subst, arith}
+use Rattle.std.proofs.Common.{ℕ, List, ◌∙◌, subst, arith}
 use Rattle.dataset_load.specs.Rounds.{HasRead}
 use Rattle.std.proofs.lemmas.Result.{err_from_is_err_and}
 use Rattle.dataset_load.proofs.ReadingSteps.{bad_fault, lines_to, lines_up_to_end}
@@ -15,6 +15,7 @@ loop-from-preserved g c =
       inside = c.round_end-to.ensures.within;
       countable = omega (arith, was.countable, counted, c.part-round.ensures.len);
       read = subst (λ (ls : List (List ℕ)). HasRead c.add_round-added.new.so_far ls) to done;
+      filter = c.add_round-added.ensures.filter ∙ was.filter;
     }
 
 pub returns-clause-numbered : goal.returns-clause-numbered

@@ -1,4 +1,4 @@
-use Rattle.std.proofs.Common.{◌+◌, rules, arith, inr}
+use Rattle.std.proofs.Common.{◌+◌, ◌∙◌, refl, rules, arith, inr}
 use Rattle.nquads_core.proofs.TransferSteps.{Stays-stays}
 use Rattle.dataset_load.specs.Rounds.{HasRead}
 use Rattle.dataset_load.proofs.LimitSteps.{long_start, spent_in, spent_step, too_long}
@@ -14,6 +14,7 @@ loop-init g c =
       read = first;
       spent = λ is. spent_in _ _ _ _ (first.more is).1;
       long = long_start _;
+      filter = refl;
       failures = search rules;
     }
 
@@ -28,6 +29,7 @@ loop-preserved g c =
       read = (rw c.in-Ok-Some.field-0-is at next.read) _ was.read;
       spent = spent.0;
       long = spent.1;
+      filter = next.filter ∙ was.filter;
       failures = Stays-stays _ _ _ was.failures next.count;
     }
 

@@ -13,5 +13,6 @@ invariant-loop g l = record {
   read : IsReadAhead (g.S.Source.left l.fn.reader) (g.S.Source.left l.reader) l.blocks.kept l.so_far l.round;
   spent : l.round.is_last ≡ false → IsSpent (l.counter * least_bytes_of_a_round) (g.S.Source.left l.fn.reader) (g.S.Source.left l.reader) l.blocks.kept;
   long : IsLongFor l.counter (g.S.Source.left l.fn.reader);
+  filter : l.so_far.filter.now ≡ l.fn.so_far.filter.now;
   failures : Stays (g.S.Source.failures l.fn.reader) (g.S.Source.failures l.reader);
 }

@@ -19,20 +19,20 @@ list_malformed-requires g c = record {
   ready = rw c.in-Some.is (some_and _ _ c.in-Some.bad c.in-Some.is (rw c.in-Err-BadLine.field-0-is at c.in-Err-BadLine.ensures.bad_round)).0;
 }
 
-pub returns-in-Some-clause-bad_line : goal.returns-in-Some-clause-bad_line
-returns-in-Some-clause-bad_line g c = (c.list_malformed.ensures.outcome (g.S.Source.left c.args.reader.now) (rw c.in-Some.is (some_and _ _ c.in-Some.bad c.in-Some.is (rw c.in-Err-BadLine.field-0-is at c.in-Err-BadLine.ensures.bad_round)).1)).bad_line
+pub returns-in-Err-BadLine-clause-bad_line : goal.returns-in-Err-BadLine-clause-bad_line
+returns-in-Err-BadLine-clause-bad_line g c = (c.list_malformed.ensures.outcome (g.S.Source.left c.args.reader.now) (rw c.in-Some.is (some_and _ _ c.in-Some.bad c.in-Some.is (rw c.in-Err-BadLine.field-0-is at c.in-Err-BadLine.ensures.bad_round)).1)).bad_line
 
-pub returns-in-Some-clause-listed : goal.returns-in-Some-clause-listed
-returns-in-Some-clause-listed g c = (c.list_malformed.ensures.outcome (g.S.Source.left c.args.reader.now) (rw c.in-Some.is (some_and _ _ c.in-Some.bad c.in-Some.is (rw c.in-Err-BadLine.field-0-is at c.in-Err-BadLine.ensures.bad_round)).1)).listed
+pub returns-in-Err-BadLine-clause-listed : goal.returns-in-Err-BadLine-clause-listed
+returns-in-Err-BadLine-clause-listed g c = (c.list_malformed.ensures.outcome (g.S.Source.left c.args.reader.now) (rw c.in-Some.is (some_and _ _ c.in-Some.bad c.in-Some.is (rw c.in-Err-BadLine.field-0-is at c.in-Err-BadLine.ensures.bad_round)).1)).listed
 
-pub returns-in-Some-clause-stopped : goal.returns-in-Some-clause-stopped
-returns-in-Some-clause-stopped g c = (c.list_malformed.ensures.outcome (g.S.Source.left c.args.reader.now) (rw c.in-Some.is (some_and _ _ c.in-Some.bad c.in-Some.is (rw c.in-Err-BadLine.field-0-is at c.in-Err-BadLine.ensures.bad_round)).1)).stopped
+pub returns-in-Err-BadLine-clause-stopped : goal.returns-in-Err-BadLine-clause-stopped
+returns-in-Err-BadLine-clause-stopped g c = (c.list_malformed.ensures.outcome (g.S.Source.left c.args.reader.now) (rw c.in-Some.is (some_and _ _ c.in-Some.bad c.in-Some.is (rw c.in-Err-BadLine.field-0-is at c.in-Err-BadLine.ensures.bad_round)).1)).stopped
 
-pub returns-in-Some-clause-taken : goal.returns-in-Some-clause-taken
-returns-in-Some-clause-taken g c = (c.list_malformed.ensures.outcome (g.S.Source.left c.args.reader.now) (rw c.in-Some.is (some_and _ _ c.in-Some.bad c.in-Some.is (rw c.in-Err-BadLine.field-0-is at c.in-Err-BadLine.ensures.bad_round)).1)).taken
+pub returns-in-Err-BadLine-clause-taken : goal.returns-in-Err-BadLine-clause-taken
+returns-in-Err-BadLine-clause-taken g c = (c.list_malformed.ensures.outcome (g.S.Source.left c.args.reader.now) (rw c.in-Some.is (some_and _ _ c.in-Some.bad c.in-Some.is (rw c.in-Err-BadLine.field-0-is at c.in-Err-BadLine.ensures.bad_round)).1)).taken
 
-pub returns-in-Some-clause-cause : goal.returns-in-Some-clause-cause
-returns-in-Some-clause-cause g c = (c.list_malformed.ensures.outcome (g.S.Source.left c.args.reader.now) (rw c.in-Some.is (some_and _ _ c.in-Some.bad c.in-Some.is (rw c.in-Err-BadLine.field-0-is at c.in-Err-BadLine.ensures.bad_round)).1)).cause
+pub returns-in-Err-BadLine-clause-cause : goal.returns-in-Err-BadLine-clause-cause
+returns-in-Err-BadLine-clause-cause g c = (c.list_malformed.ensures.outcome (g.S.Source.left c.args.reader.now) (rw c.in-Some.is (some_and _ _ c.in-Some.bad c.in-Some.is (rw c.in-Err-BadLine.field-0-is at c.in-Err-BadLine.ensures.bad_round)).1)).cause
 
-pub returns-in-Some-clause-count : goal.returns-in-Some-clause-count
-returns-in-Some-clause-count g c = counts_then _ _ _ c.list_malformed.result (rw c.in-Err-BadLine.field-0-is at c.in-Err-BadLine.ensures.count) c.list_malformed.ensures.count
+pub returns-in-Err-BadLine-clause-count : goal.returns-in-Err-BadLine-clause-count
+returns-in-Err-BadLine-clause-count g c = counts_then _ _ _ c.list_malformed.result (rw c.in-Err-BadLine.field-0-is at c.in-Err-BadLine.ensures.count) c.list_malformed.ensures.count

@@ -1,4 +1,4 @@
-use Rattle.std.proofs.Common.{◌≡◌, ℕ, List}
+use Rattle.std.proofs.Common.{ℕ, List}
 use Rattle.std.specs.Vec.Iter.{into_iter_items}
 use Rattle.rdf_core.specs.declared.term.Term.{Term}
 use Rattle.dataset_load.specs.Terms.{AreJoined}
