@@ -85,6 +85,10 @@ def parts():
     yield arrow((930, 232), (930, 295))
     yield arrow((720, 368), (720, 399))
     yield arrow((820, 423), (839, 423))
+    # Which quads of the document the plan needs.
+    yield box(480, 226, 120, "needed_quads", "quads of a plan;", "quad_filter")
+    yield arrow((840, 455), (590, 455), (590, 289))
+    yield arrow((480, 257), (461, 257))
     # Rows and results.
     yield frame(40, 490, 1000, 96, "sparql_eval", "a plan becomes rows of numbers, operator by operator")
     yield box(60, 526, 225, "row_pattern", "basic graph patterns by scans")

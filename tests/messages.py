@@ -128,12 +128,14 @@ def longest_lines():
 
 
 def distant_lines():
-    """A byte that is not UTF-8, after text beyond ASCII in a round of blocks before the one of its line."""
+    """A byte that is not UTF-8, after text beyond ASCII in a round of blocks before the one of its line, also in a statement that a query
+    does not need."""
     plain = b"<a:s> <a:p> <a:o> .\n" * 500_000
     for before, hint in ((b"", LATIN1), ("<a:s> <a:p> <a:\u00e9> .\n".encode(), "the text before this byte is UTF-8, so the byte is damaged: repair line {}")):
         number = 500_001 + (before != b"")
-        yield failed(f"a byte that is not UTF-8 after {len(before)} bytes and 500,000 lines", ["check"], before + plain + b"\xe9x\n", 1, f"error: line {number}",
-                     message(f"line {number}, byte 1", "invalid UTF-8: byte 0xE9", "\ufffdx\n^", hint.format(number)))
+        for words in (["check"], ["select", "--query", "SELECT * { <a:x> ?p ?o }"]):
+            yield failed(f"{words[0]}: a byte that is not UTF-8 after {len(before)} bytes and 500,000 lines", words, before + plain + b"\xe9x\n", 1, f"error: line {number}",
+                         message(f"line {number}, byte 1", "invalid UTF-8: byte 0xE9", "\ufffdx\n^", hint.format(number)))
 
 
 def beginnings():

@@ -19,6 +19,7 @@ use Rattle.algebra_model.specs.Laws.{BagHasOneList, DatasetIsSet}
 use Rattle.algebra_model.specs.RowOrder.{sorted_rows}
 use Rattle.algebra_model.specs.Solution.{Solution}
 use Rattle.algebra_model.specs.Sorted.{slice}
+use Rattle.needed_quads.specs.Laws.{HasNeeded, NeededSuffice}
 use Rattle.sparql_tree.specs.QueryTree.{QueryTree}
 use Rattle.sparql_algebra.specs.Names.{Name, names_of, number_of, selected_names}
 use Rattle.sparql_algebra.specs.Projected.{projected}
@@ -72,6 +73,17 @@ same_rows set one q D E same =
     ap (slice (unwrap_or q.offset 0) q.limit)
     (one (projection q) (eval (length (names_of q)) D None (translate q).algebra) (eval (length (names_of q)) E None (translate q).algebra) (set (length (names_of q)) D E same None (translate q).algebra))
 
+-- the rows over the quads that the query needs are its rows
+pub needed_rows : NeededSuffice → BagHasOneList → (q : QueryTree) (names : List Name) (A : Algebra) (D E : List QuadParts) → names ≡ names_of q → A ≡ (translate q).algebra
+    → is_within (length names) A ≡ true → HasNeeded D E A → rows q D ≡ rows q E
+unfolding rows
+needed_rows suffice one q names A D E n a within needed =
+    let w = length (names_of q) in
+    let same : IsSameBag (eval w D None (translate q).algebra) (eval w E None (translate q).algebra) =
+    subst (λ (B : Algebra). IsSameBag (eval w D None B) (eval w E None B)) a
+    (subst (λ (xs : List Name). IsSameBag (eval (length xs) D None A) (eval (length xs) E None A)) n (suffice (length names) A D E within needed)) in
+    ap (slice (unwrap_or q.offset 0) q.limit) (one (projection q) (eval w D None (translate q).algebra) (eval w E None (translate q).algebra) same)
+
 -- the sorted rows of the same bag are the query's
 pub rows_are : BagHasOneList → (q : QueryTree) (D : List QuadParts) (names : List Name) (A : Algebra) (S : List (Solution Term)) (vs : List ℕ) (offset : ℕ) → names ≡ names_of q → A ≡ (translate q).algebra
     → IsSameBag S (eval (length names) D None A) → vs ≡ projected A → offset ≡ unwrap_or q.offset 0 → slice offset q.limit (sorted_rows vs S) ≡ rows q D
@@ -103,7 +115,7 @@ pub json_of_store : DatasetIsSet → BagHasOneList → (q : QueryTree) (doc : Li
 json_of_store set one q doc store bytes l e = record {
   quads = l.quads;
   statements = l.statements;
-  printed = e ∙ ap (json (selected_names q)) (same_rows set one q (quads_at store.dict store.index) l.quads l.dataset);
+  printed = e ∙ ap (json (selected_names q)) (same_rows set one q (quads_at store.dict store.index) l.quads l.store_of.dataset);
 }
 
 -- the same of bytes that were joined from borrowed blocks

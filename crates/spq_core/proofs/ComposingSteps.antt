@@ -16,13 +16,17 @@ use Rattle.spq_core.specs.Output.{Request, select, check, terms}
 use Rattle.spq_core.specs.Listing.{counts_line, text_lines}
 use Rattle.spq_core.specs.Run.{IsAnswerable, IsBadLineOf, IsComposed, IsRun}
 use Rattle.spq_run.specs.Writing.{WriterFailed}
-use Rattle.spq_core.specs.Composing.{IsBadLineFrom, IsComposing, IsLoadedFrom, IsLoading}
+use Rattle.algebra_model.specs.Algebra.{Algebra}
+use Rattle.spq_core.specs.Composing.{IsBadLineFrom, IsComposing, IsLoadedFrom, IsLoading, IsNeededFrom}
 use Rattle.spq_core.proofs.DocumentSteps.{composed_check, composed_terms}
 use Rattle.spq_run.specs.declared.fault.RunFault.{RunFault}
 use Rattle.spq_run.specs.declared.fault.RunFault.TheVariants.{Memory, WorkerRefused, Write}
 
 pub part_loaded : (left left' : Option (List ℕ)) (store : StoreView) → IsLoadedFrom left left' store → IsReadInPart left left'
 part_loaded left left' store h = record { taken = h.doc; consumed = h.consumed }
+
+pub part_needed : (A : Algebra) (left left' : Option (List ℕ)) (store : StoreView) → IsNeededFrom A left left' store → IsReadInPart left left'
+part_needed A left left' store h = record { taken = h.doc; consumed = h.consumed }
 
 module _ {S T : Type 0} (left : S → Option (List ℕ)) (failures : S → Option ℕ) (loads : Option (List ℕ) → Option (List ℕ) → T → Type 0) (request : Request) (alone : Type 0) (reader reader' : S) where
   -- a document that was not loaded gives no output
@@ -71,23 +75,6 @@ module _ {S T : Type 0} (left : S → Option (List ℕ)) (failures : S → Optio
     write = λ e. cc;
     line = λ e. cc;
     one_worker = λ a e. cc;
-  }
-
-  -- a worker could not be started
-  pub not_started : (value : T) → IsAnswerable request → IsReadInPart (left reader) (left reader') → IsLoading left failures loads alone reader reader' (Ok value) → (alone → ⊥)
-      → IsComposing left failures request alone reader reader' (Err WorkerRefused)
-  not_started value answerable part h several = record {
-    composed = tt;
-    query = λ q e. absurd (cc);
-    query_first = inr answerable;
-    answerable = λ e. answerable;
-    bad_line = λ n e. absurd (cc);
-    taken = part;
-    read = λ e. absurd (cc);
-    unfailed = λ other. h.unfailed (λ e. cc);
-    write = λ e. cc;
-    line = λ e. cc;
-    one_worker = λ a e. several a;
   }
 
 module _ {S : Type 0} (left : S → Option (List ℕ)) (failures : S → Option ℕ) (alone : Type 0) (reader reader' : S) where

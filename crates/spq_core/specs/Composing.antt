@@ -1,11 +1,19 @@
 -- What loading a document and composing an output return, and what they do to the reader. Only private clauses use these definitions.
 use Rattle.std.specs.Prelude.{◌≡◌, ◌⊎◌, ℕ, List, Option, Result, Ok, Err, IfOk, OnErr, Vec}
 use Rattle.std.specs.Global.{Global}
+use Rattle.std.specs.Io.KnownBytes.{Consumes, IsAtEnd}
+use Rattle.rdf_core.specs.QuadParts.{QuadParts}
 use Rattle.nquads_core.specs.Device.{Rises, Stays}
+use Rattle.nquads_core.specs.Lines.{lines}
+use Rattle.nquads_core.specs.Pieces.{HaveStatements}
 use Rattle.nquads_core.specs.Transfer.{IsReadInPart}
+use Rattle.algebra_model.specs.Algebra.{Algebra}
+use Rattle.dict_core.specs.NumQuad.{quads_at}
+use Rattle.dataset_load.specs.Store.{StoreView}
 use Rattle.dataset_load.specs.declared.reader_fault.ReaderFault.{ReaderFault}
 use Rattle.dataset_load.specs.declared.reader_fault.ReaderFault.TheVariants as reading
 pub use Rattle.dataset_load.specs.Streaming.{IsBadLineFrom, IsLoadedFrom}
+use Rattle.needed_quads.specs.Laws.{HasNeeded}
 use Rattle.result_json.specs.Results.{joined_blocks}
 use Rattle.sparql_read.specs.declared.fault.QueryFault.{QueryFault}
 use Rattle.spq_core.specs.Output.{Request}
@@ -29,6 +37,16 @@ run_result_of (Err (reading.BadLine n)) = Err (BadLine n)
 run_result_of (Err reading.WorkerRefused) = Err WorkerRefused
 run_result_of (Err reading.Memory) = Err Memory
 run_result_of (Err reading.Read) = Err Read
+
+-- The reader was read to its end, and every line of what was read is valid. The store has all quads of the lines that the
+-- expression needs, and no quad that is not of the lines.
+pub record IsNeededFrom (A : Algebra) (left left' : Option (List ℕ)) (store : StoreView) : Type 0 where
+  pub doc : List ℕ
+  pub consumed : Consumes left left' doc
+  pub at_end : IsAtEnd left'
+  pub all : List QuadParts
+  pub statements : HaveStatements (lines doc) all
+  pub needed : HasNeeded all (quads_at store.dict store.index) A
 
 -- What loading the document of a reader returned, and what it did to the reader. What the reader
 -- exposes comes first: the bytes that are left, and the count of its failures. Then comes what a value is

@@ -68,9 +68,8 @@ pub fn check_query(alloc: Global, text: &str) -> Result<(), Fault>
     }
 }
 
-/// Returns the JSON of a query's rows over a loaded dataset, in blocks that follow each other. Returns the dictionary,
-/// too, since its terms are freed one by one: the caller may leave them to the end of the process.
-pub fn answer_query<R: Threads + Wait + RandomSource, G: Gate + Sync, P: Progress>(
+/// Returns the JSON of a query's rows over a loaded dataset, as `answer_plan` does.
+fn answer_query<R: Threads + Wait + RandomSource, G: Gate + Sync, P: Progress>(
     context: &Context<'_, R, G>,
     store: Store,
     query: &Query,
@@ -81,7 +80,6 @@ pub fn answer_query<R: Threads + Wait + RandomSource, G: Gate + Sync, P: Progres
         (rows (query_of query.now) (quads_at store.dict store.index))) }
     ensures one_worker { HasOneWorker context.now.how.now → IfErr result (λ fault. fault ≡ Memory) }
 {
-    log.begin(Stage::Evaluating);
     match translate(context.alloc, query) {
         Ok(plan) => {
             let made = answer_plan(context, store, query, &plan, log);
@@ -95,10 +93,11 @@ pub fn answer_query<R: Threads + Wait + RandomSource, G: Gate + Sync, P: Progres
     }
 }
 
-/// Evaluates the plan of a query over a loaded dataset, and prints its rows. Returns the dictionary, too.
+/// Returns the JSON of the rows of a query, whose plan this is, over a loaded dataset, in blocks that follow each other.
+/// Returns the dictionary, too, since its terms are freed one by one: the caller may leave them to the end of the process.
 ///
 /// The plan is only borrowed here, and each value that is owned here is dropped by a call (docs/PROOF.md).
-fn answer_plan<R: Threads + Wait + RandomSource, G: Gate + Sync, P: Progress>(
+pub fn answer_plan<R: Threads + Wait + RandomSource, G: Gate + Sync, P: Progress>(
     context: &Context<'_, R, G>,
     store: Store,
     query: &Query,
@@ -113,6 +112,7 @@ fn answer_plan<R: Threads + Wait + RandomSource, G: Gate + Sync, P: Progress>(
     ensures one_worker { HasOneWorker context.now.how.now → IfErr result (λ fault. fault ≡ Memory) }
 {
     a_bag_has_one_sorted_list();
+    log.begin(Stage::Evaluating);
     let (dict, index) = store.into_parts();
     log.planned(context.alloc, plan);
     let counts = log.counts();

@@ -1,6 +1,6 @@
 //! How a run takes its notes. No clause and no output depends on them.
 
-use dataset_load::{LoadNotes, Store};
+use dataset_load::LoadNotes;
 use expression_errors::ErrorCounts;
 use query_notes::{Outline, keys_of, outline_of};
 use sparql_algebra::Plan;
@@ -51,18 +51,22 @@ impl<'p, P: Progress> Log<'p, P> {
 
     /// Adds the notes of loading the document.
     pub(crate) fn loaded(&mut self, loading: LoadNotes) {
-        let LoadNotes { malformed, is_read } = loading;
+        let LoadNotes {
+            malformed,
+            is_read,
+            has_default,
+            has_named,
+        } = loading;
         if is_read {
             self.notes.stage = Stage::Indexing;
         }
         self.notes.malformed = malformed;
+        self.notes.is_named_only = has_named && !has_default;
     }
 
-    /// Notes the query that is evaluated, and whether all quads are in named graphs.
-    pub(crate) fn queried(&mut self, alloc: Global, text: &str, store: &Store) {
+    /// Notes the query that is evaluated.
+    pub(crate) fn queried(&mut self, alloc: Global, text: &str) {
         self.notes.outline = outline_of(alloc, text).ok();
-        let is_empty = store.index().scan(None, None, None, None).is_empty();
-        self.notes.is_named_only = is_empty && store.graphs() > 0;
     }
 
     /// Notes the plan that is evaluated. Without memory, or without the text of its query, the errors

@@ -5,27 +5,34 @@ ghost use Rattle.std.specs.Str.{chars};
 ghost use Rattle.nquads_core.specs.Device.{Stays};
 ghost use Rattle.nquads_core.specs.Transfer.{WroteBeginning};
 ghost use Rattle.dataset_load.specs.Counted.{AreTermsFrom, IsCountedFrom};
-ghost use Rattle.dataset_load.specs.Streaming.{IsLoadedFrom};
+ghost use Rattle.dataset_load.specs.Streaming.{IsKeptLoadedFrom};
 ghost use Rattle.sparql_tree.specs.QueryTree.{query_of};
 ghost use Rattle.sparql_read.specs.Rejection.{IsValidQuery};
+ghost use Rattle.sparql_algebra.specs.AlgebraOf.{algebra_of};
+ghost use Rattle.sparql_algebra.specs.Names.{names_of};
+ghost use Rattle.sparql_algebra.specs.Translation.{translate};
 ghost use Rattle.result_json.specs.Results.{joined_blocks};
 ghost use Rattle.spq_core.specs.Output.{check, request_of, select, terms};
 ghost use Rattle.spq_core.specs.Causes.{IsRunCaused};
 ghost use Rattle.spq_core.specs.Listing.{counts_line, text_lines};
 ghost use Rattle.spq_core.specs.Run.{IsAnswerable, IsByOneWorker, IsRun};
-ghost use Rattle.spq_core.specs.Composing.{IsComposing, IsLoading, run_fault_of, run_result_of};
+ghost use Rattle.spq_core.specs.Composing.{IsComposing, IsLoading, IsNeededFrom, run_fault_of, run_result_of};
 ghost use Rattle.spq_run.specs.Writing.{WriterFailed};
 ghost use Rattle.spq_run.specs.declared.fault.RunFault.TheVariants.{WorkerRefused};
 
-use crate::answering::{answer_query, valid_query};
+use crate::answering::{answer_plan, valid_query};
 use crate::fault::Fault;
 use crate::listing::{counts_text, terms_text};
 use crate::notes::Log;
-use algebra_model::laws::{a_bag_has_one_sorted_list, a_dataset_is_a_set};
+use algebra_model::laws::a_bag_has_one_sorted_list;
 use dataset_load::{Counted, LoadNotes, ReaderFault, Store, count_reader, load_reader, load_terms};
+use needed_quads::filter_of;
+use needed_quads::laws::needed_quads_suffice;
 use nquads_core::{DeviceFailed, Sink, Source};
 use piece_pool::{OpenGate, PoolFault};
+use quad_filter::QuadFilter;
 use row_pieces::{Context, EvalFault, How};
+use sparql_algebra::{Plan, translate};
 use sparql_tree::Query;
 use spq_command::{Command, ReadOptions};
 use spq_run::{NoProgress, Progress, RunFault, Stage, write_text};
@@ -73,16 +80,17 @@ fn finished<T: Drop, P: Progress>(
     }
 }
 
-/// Loads the rest of the reader as a dataset.
+/// Loads the quads of the rest of the reader that the filter keeps, and perhaps others.
 fn load_document<R: Threads + Wait + RandomSource, S: Source, P: Progress>(
     rt: &R,
     alloc: Global,
     reading: ReadOptions,
+    filter: &QuadFilter,
     reader: &mut S,
     log: &mut Log<'_, P>,
 ) -> Result<Store, RunFault>
-    ensures loading { IsLoading S.left S.failures IsLoadedFrom (reading.workers ≡ 1)
-        reader.old reader.new result }
+    ensures loading { IsLoading S.left S.failures (IsKeptLoadedFrom filter.now)
+        (reading.workers ≡ 1) reader.old reader.new result }
     ensures cause { IfErr result (IsRunCaused P.fails (S.left reader.old)) }
 {
     log.begin(Stage::Reading);
@@ -93,12 +101,36 @@ fn load_document<R: Threads + Wait + RandomSource, S: Source, P: Progress>(
         alloc,
         size,
         reader,
+        filter,
         workers,
         &OpenGate,
         &mut loading,
         log.progress(),
     );
     finished(log, loading, loaded)
+}
+
+/// Loads the quads of the rest of the reader that a plan needs, and perhaps others. If there is no memory for a filter of them,
+/// nothing is read.
+fn load_needed<R: Threads + Wait + RandomSource, S: Source, P: Progress>(
+    rt: &R,
+    alloc: Global,
+    reading: ReadOptions,
+    plan: &Plan,
+    reader: &mut S,
+    log: &mut Log<'_, P>,
+) -> Result<Store, RunFault>
+    ensures loading { IsLoading S.left S.failures (IsNeededFrom (algebra_of plan.now.tree))
+        (reading.workers ≡ 1) reader.old reader.new result }
+    ensures cause { IfErr result (IsRunCaused P.fails (S.left reader.old)) }
+{
+    let filter = match filter_of(alloc, plan) {
+        Ok(filter) => filter,
+        Err(_failed) => return Err(run_fault(log.progress(), Fault::Memory)),
+    };
+    let store = load_document(rt, alloc, reading, &filter, reader, log);
+    drop(filter);
+    store
 }
 
 /// Counts the quads and graph names of the rest of the reader, and returns its terms.
@@ -197,9 +229,7 @@ struct ValidSelect<'q> {
     rows: usize,
 }
 
-/// Evaluates a query over the rest of the reader.
-///
-/// The memory of the terms is left to the end of the process, as in `checked`.
+/// Evaluates a query over the rest of the reader. Translates it before it reads, since its plan says which quads it needs.
 fn selected_by<R: Threads + Wait + RandomSource, S: Source, P: Progress>(
     rt: &R,
     alloc: Global,
@@ -212,10 +242,38 @@ fn selected_by<R: Threads + Wait + RandomSource, S: Source, P: Progress>(
         (valid.now.reading.workers ≡ 1) reader.old reader.new result }
     ensures cause { IfErr result (IsRunCaused P.fails (S.left reader.old)) }
 {
-    a_dataset_is_a_set();
+    let plan = match translate(alloc, valid.query) {
+        Ok(plan) => plan,
+        Err(_failed) => return Err(run_fault(log.progress(), Fault::Memory)),
+    };
+    let blocks = planned(rt, alloc, valid, &plan, reader, log);
+    drop(plan);
+    blocks
+}
+
+/// Evaluates the plan of a query over the rest of the reader. The plan is only borrowed (docs/PROOF.md).
+///
+/// The memory of the terms is left to the end of the process, as in `checked`.
+fn planned<R: Threads + Wait + RandomSource, S: Source, P: Progress>(
+    rt: &R,
+    alloc: Global,
+    valid: &ValidSelect<'_>,
+    plan: &Plan,
+    reader: &mut S,
+    log: &mut Log<'_, P>,
+) -> Result<Vec<Vec<u8>>, RunFault>
+    requires valid { IsValidQuery (chars valid.now.text.now) (query_of valid.now.query.now) }
+    requires names { plan.now.names.items ≡ names_of (query_of valid.now.query.now) }
+    requires tree { algebra_of plan.now.tree
+        ≡ (translate (query_of valid.now.query.now)).algebra }
+    ensures composing { IsComposing S.left S.failures (select valid.now.text.now)
+        (valid.now.reading.workers ≡ 1) reader.old reader.new result }
+    ensures cause { IfErr result (IsRunCaused P.fails (S.left reader.old)) }
+{
     a_bag_has_one_sorted_list();
-    let store = load_document(rt, alloc, valid.reading, reader, log)?;
-    log.queried(alloc, valid.text, &store);
+    needed_quads_suffice();
+    let store = load_needed(rt, alloc, valid.reading, plan, reader, log)?;
+    log.queried(alloc, valid.text);
     let how = How {
         workers: valid.reading.workers,
         rows: valid.rows.max(1),
@@ -226,7 +284,7 @@ fn selected_by<R: Threads + Wait + RandomSource, S: Source, P: Progress>(
         how: &how,
         gate: &OpenGate,
     };
-    match answer_query(&context, store, valid.query, log) {
+    match answer_plan(&context, store, valid.query, plan, log) {
         Ok((blocks, dict)) => {
             mem::forget(dict);
             Ok(blocks)

@@ -52,7 +52,7 @@ pub struct Notes {
     pub outline: Option<Outline>,
     /// The rows over which expressions of its query were errors, if there was memory to count them.
     pub counts: Option<ErrorCounts>,
-    /// Whether all quads are in named graphs, and some are.
+    /// Whether all quads of the document are in named graphs, and some are.
     pub is_named_only: bool,
 }
 

@@ -8,6 +8,7 @@ use dataset_load::{
 };
 use nquads_core::Device;
 use piece_cuts::Cuts;
+use quad_filter::QuadFilter;
 use std::alloc::{AllocGlobal, Global};
 use std::process::Abort;
 use std::random::RandomSource;
@@ -87,6 +88,7 @@ fn from_reader<R: Threads + Wait + RandomSource + Print>(
         alloc,
         1,
         &mut reader,
+        &QuadFilter::All,
         workers,
         gate,
         &mut notes,
