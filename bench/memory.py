@@ -1,7 +1,7 @@
 """The kinds of document for which compare.py measures peak memory, and the peaks.
 
-A document has a number of distinct statements of one kind. `check` counts them, and `select` runs a query with one solution,
-so that its peak is that of loading and not of rows.
+A document has a number of distinct statements of one kind. `check` counts them. `select` runs a query that can match every
+statement, but has few solutions, so that its peak is that of loading all, and not of rows.
 """
 import os
 import sys
@@ -20,11 +20,12 @@ KINDS = {
 }
 
 
-def one_row(path):
-    """Returns a query with the solutions of one subject, that of the first line."""
+def few_rows(path):
+    """Returns a query that can match every statement, with the solutions of the subject of the first line."""
     with open(path, encoding="utf-8") as file:
         subject = file.readline().split(" ", 1)[0]
-    return f"SELECT ?p ?o {{ {subject} ?p ?o }} LIMIT 1" if subject.startswith("<") else "SELECT * {} LIMIT 1"
+    group = f"{subject if subject.startswith('<') else '<http://example.org/none>'} ?p ?o . ?o ?q ?x"
+    return f"SELECT ?p {{ {{ {group} }} UNION {{ GRAPH ?g {{ {group} }} }} }} LIMIT 1"
 
 
 def peaks(spq, quads, folder):
@@ -33,7 +34,7 @@ def peaks(spq, quads, folder):
     for kind, shape in KINDS.items():
         print(f"{quads:,} quads: memory, {kind}", file=sys.stderr)
         path = measure.dataset(folder, quads, shape)
-        commands = {"check": ["check"], "select": ["select", "--query", one_row(path)]}
+        commands = {"check": ["check"], "select": ["select", "--query", few_rows(path)]}
         found[kind] = {"document": os.path.getsize(path) / quads}
         for name, words in commands.items():
             try:

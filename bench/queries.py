@@ -4,9 +4,10 @@
     queries.py [--spq PATH] [--quads N,N..] [--runs N] [--workers N] [--only TEXT] [--folder PATH]
 
 Each query runs --runs times on each dataset of datasets.py, and the least time counts. The time of `SELECT * {}`,
-which loads the dataset and returns one row, is subtracted; the rest is the query and its output. `SELECT * {}` runs
-before each query, and the least of all its times counts. The growth is that of CPU seconds, which other work on the
-machine affects least. A query whose rows grow by ten should take about ten times as long.
+which reads the dataset, keeps no statement and returns one row, is subtracted; the rest is keeping the statements that
+the query needs, the query, and its output. `SELECT * {}` runs before each query, and the least of all its times counts.
+The growth is that of CPU seconds, which other work on the machine affects least. A query whose rows grow by ten should
+take about ten times as long.
 A dataset of 1,200,000 quads has about 97,000 works, so `join` joins two lists of 97,000 rows there.
 Python 3 standard library only.
 """
