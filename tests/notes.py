@@ -1014,7 +1014,7 @@ def are_among(said, wanted, least):
 
 def wrong(program, document, query, wanted, least=None):
     """Returns what is wrong of a case, or nothing. The notes are the wanted ones, or if a number is given, as in `are_among`."""
-    for words in (["--workers", "1"], ["--workers", "8", "--rows", "1"]):
+    for words in (["--workers", "1"], ["--workers", "8", "--rows", "1", "--piece", "1"]):
         ran = subprocess.run([program, "select", *words, "--query", query], input=document.encode(), stdout=subprocess.DEVNULL, stderr=subprocess.PIPE, timeout=120)
         said = ran.stderr.decode().splitlines()
         if ran.returncode or not (said == wanted if least is None else are_among(said, wanted, least)):
