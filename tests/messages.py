@@ -246,7 +246,7 @@ def memory():
     """Allocations and threads that fail."""
     line = "error: memory"
     cost = "hint: docs/COST.md says how much memory a document and a query take\n"
-    stages = ["reading the command line", "reading the document", "indexing the document", "evaluating the query", "printing the result"]
+    stages = ["preparing to read the document", "reading the document", "indexing the document", "evaluating the query", "printing the result"]
     yield Case("each allocation of a query", ["select", "--workers", "1", "--query", "SELECT ?o { ?s ?p ?o . ?s ?q ?o }"], STATEMENT, 4, line + "\n",
                [f"{line}\nspq: out of memory while {stage}\n{cost}" for stage in stages], growths=True)
     many = b"".join(b"<http://e/%d> <http://e/p> \"%d\" .\n" % (n, n) for n in range(200000))

@@ -62,7 +62,7 @@ pub(crate) fn no_command<W: Write>(
 /// Writes what a run was doing when an allocation failed. Allocates nothing.
 pub(crate) fn no_memory<W: Write>(out: &mut W, stage: Stage) -> io::Result<()> {
     let doing = match stage {
-        Stage::Checking => "reading the command line",
+        Stage::Checking => "preparing to read the document",
         Stage::Reading => "reading the document",
         Stage::Indexing => "indexing the document",
         Stage::Evaluating => "evaluating the query",
