@@ -520,8 +520,8 @@ def blocks_left(program, library, words, document):
 def nothing_left_behind(program):
     """Checks that every block of memory is freed, also of long chains. The C library keeps a block for each of up to eight threads.
 
-    The memory of the terms of a valid document is left to the end of the process: at most two blocks for each term, and
-    the same number by each query. A query here adds at most four terms. The other commands keep no blocks for terms, but texts.
+    The memory of the terms that a query needs is left to the end of the process, at most two blocks for each. A query here
+    needs those of all statements or of none, and adds at most four. The other commands keep no blocks for terms, but texts.
     """
     library = stand_in(program, "blocks")
     filters = [b"||1", b"&&1", b"&&!(1)", b"||?a=1", b"||?a IN(1,?b)", b"||STR(?a)", b"||BOUND(?a)", b"||sameTerm(?a,1)"]
@@ -532,11 +532,12 @@ def nothing_left_behind(program):
     queries += [b"SELECT DISTINCT ?e { GRAPH ?g { ?s ?p ?o } BIND(STR(?o) AS ?e) VALUES (?k ?l) { (1 UNDEF) } } LIMIT 3"]
     commands = [["check"], ["check", "--workers", "1"], ["terms"]] + [["select", "--query", it] for it in queries]
     lines = [b"<http://e/s%d> <http://e/p> \"x\"@en <http://e/g> .\n" % n for n in range(1000)]
-    kept = blocks_left(program, library, ["select", "--query", "SELECT * {}"], lines)
-    expect(kept <= 2 * 1003 + 2, f"{kept} blocks are left of 1003 terms")
+    needed = ["SELECT * {}", "SELECT * { GRAPH ?g { ?s ?p ?o } }"]
+    none, every = (blocks_left(program, library, ["select", "--query", it], lines) for it in needed)
+    expect(none <= 8 and every <= 2 * 1003 + 2, f"{none} blocks are left of no terms, and {every} of 1003 terms")
     for words in commands:
-        left, terms = blocks_left(program, library, words, lines), kept if words[0] == "select" else 0
-        expect(left <= terms + 8, f"{words[0]} {words[-1][:60]!r}: {left} blocks are left, and {terms} of the terms")
+        left, kept = blocks_left(program, library, words, lines), (none, every) if words[0] == "select" else (0,)
+        expect(min(abs(left - it) for it in kept) <= 8, f"{words[0]} {words[-1][:60]!r}: {left} blocks are left, not {kept}")
     faulty = [["none"], ["select", "--query", b"SELECT"]]
     for words, last in [*itertools.product(commands, [b"x\n"]), *itertools.product(faulty, [b"", b"x\n"])]:
         left = blocks_left(program, library, words, [*lines, last])
