@@ -5,7 +5,7 @@
 
 Each query runs --runs times over each document, and the least time counts. The time of a query without solutions is
 subtracted. The growth is that of the CPU seconds; a growth of 2 is linear. The last column marks queries that grow by
-more than 2.6, or take more than a second over N subjects; the exit status is 1 if there are any.
+more than 2.6, or take more than a second; the exit status is 1 if there are any.
 Python 3 standard library only.
 """
 import argparse
@@ -158,7 +158,7 @@ def main():
                 document.writelines(statements(n))
         loads = [measured(options, path, output, PREFIX + NOTHING) for path in paths]
         print("beyond a query without solutions:          CPU seconds            seconds")
-        print(f"{'query':30} {'once':>8} {'twice':>8} {'growth':>7} {'once':>8}", flush=True)
+        print(f"{'query':30} {'once':>8} {'twice':>8} {'growth':>7} {'most':>8}", flush=True)
         for name, pattern in QUERIES.items():
             if options.only not in name:
                 continue
@@ -169,7 +169,7 @@ def main():
                 marked += 1
                 continue
             once, twice = (max(0.0, run.cpu - load.cpu) for run, load in zip(runs, loads))
-            waited = max(0.0, runs[0].seconds - loads[0].seconds)
+            waited = max(0.0, *(run.seconds - load.seconds for run, load in zip(runs, loads)))
             # Below 0.02 seconds, most of the figure is the resolution of the clock.
             growth = twice / once if once >= 0.02 else 0.0
             mark = "<--" if growth > MOST_GROWTH or waited > MOST_SECONDS else ""
