@@ -576,64 +576,6 @@ class Writer:
         return [f"spq: note: {it}" for it in found]
 
 
-# Which quads a query needs. The program evaluates it over these alone, so VALUES can lower the number of rows that an error costs.
-
-
-def restrictions(elements):
-    """Returns the variables that VALUES binds in every row of these elements, each with its terms."""
-    if not elements or elements[-1][0] in ("bind", "optional", "minus"):
-        return []
-    return restrictions(elements[:-1]) + restrictions_of(elements[-1])
-
-
-def restrictions_of(element):
-    if element[0] == "values":
-        return [(element[1], element[2])]
-    return restrictions(element[1]) if element[0] == "group" and not filters(element[1]) else []
-
-
-def may_be(known, place, term):
-    """Returns whether a place of a pattern can have this term. Of several VALUES of one variable the program looks at the first."""
-    return next((term in terms for name, terms in known if name == place[1]), True) if place[0] == "var" else place == term
-
-
-def needs_triples(group):
-    """Returns whether a group has no row in a graph without triples."""
-    return any(it[0] == "triples" or it[0] == "group" and needs_triples(it[1]) or it[0] == "union" and all(map(needs_triples, it[1:])) for it in group)
-
-
-def needs(quad, is_here, known, group):
-    """Returns whether the rows of a group depend on a quad. `is_here` is whether it is in the active graph."""
-    elements = [it for it in group if it[0] != "filter"]
-    if not elements:
-        return False
-    rest, last = elements[:-1], elements[-1]
-    if last[0] == "bind":
-        return needs(quad, is_here, known, rest)
-    if last[0] in ("optional", "minus"):
-        return needs(quad, is_here, known, rest) or needs(quad, is_here, restrictions(rest), last[1])
-    known = known + restrictions(elements)
-    return needs(quad, is_here, known, rest) or depends(quad, is_here, known, last)
-
-
-def depends(quad, is_here, known, element):
-    """The same of an element that is joined with those before it."""
-    kind = element[0]
-    if kind == "triples":
-        return is_here and any(all(may_be(known, place, term) for place, term in zip(it, quad)) for it in element[1])
-    if kind == "union":
-        return any(needs(quad, is_here, known, it) for it in element[1:])
-    if kind == "graph":
-        is_inside = quad[3] is not None and may_be(known, element[1], quad[3])
-        return is_inside and (not needs_triples(element[2]) or needs(quad, True, known, element[2])) or needs(quad, False, known, element[2])
-    return kind == "group" and needs(quad, is_here, known, element[1])
-
-
-def needed(quads, group):
-    """Returns the quads on which the rows of a query depend."""
-    return [it for it in quads if needs(it, it[3] is None, [], group)]
-
-
 # Random documents and queries.
 
 
@@ -724,9 +666,10 @@ class Drawer:
                 group.append(("bind", self.expression(seen), name, Site()))
                 scope.add(name)
             elif kind < 0.55:
-                name = draw.choice(["s", "o", self.new()])
-                terms = NAMES[:3] if name == "s" else LITERALS + NAMES[:2]
-                group.append(("values", name, [draw.choice(terms) for _ in range(draw.randrange(1, 3))]))
+                name = draw.choice(["s", "o", "g", self.new()])
+                terms = NAMES[:3] if name == "s" else GRAPHS if name == "g" else LITERALS + NAMES[:2]
+                values = ("values", name, [draw.choice(terms) for _ in range(draw.randrange(1, 3))])
+                group.insert(draw.choice([0, len(group)]), values)
                 scope.add(name)
             elif depth and kind < 0.72:
                 inner, found = self.group(scope | outer, depth - 1, is_in_graph)
@@ -785,7 +728,7 @@ def case(seed):
             # (`everywhere` has cases with more)
             seed += 1_000_000_007
             continue
-        writer, model = Writer(draw), Model(needed(quads, group))
+        writer, model = Writer(draw), Model(quads)
         writer.put("SELECT", "*")
         writer.group(group, "", False, False)
         try:

@@ -113,19 +113,21 @@ union_added graph known A B old mid new a b = record {
       (or_cases (is_needed q here R A) (is_needed q here R B) n);
 }
 
--- the restrictions of both inputs
-pub join_added : (graph : WantedGraph) (known inner : List Restricted) (A B : Algebra) (old mid new : List Shape)
+-- restrictions of both inputs, and more of the first one for the second
+pub join_added : (graph : WantedGraph) (known inner more : List Restricted) (A B : Algebra) (old mid new : List Shape)
     → AreRestricted (restrictions A ++ restrictions B) known inner
-    → AreAdded (needs_of A) graph inner old mid → AreAdded (needs_of B) graph inner mid new
+    → AreRestricted (restrictions A) inner more
+    → AreAdded (needs_of A) graph inner old mid → AreAdded (needs_of B) graph more mid new
     → AreAdded (needs_of (Join A B)) graph known old new
-join_added graph known inner A B old mid new entered a b = record {
+join_added graph known inner more A B old mid new entered later a b = record {
   kept = λ q h. b.kept q (a.kept q h);
   needed = λ R c q here w n.
       let X = restrictions A ++ restrictions B in
-      let now : All (Covers (R ++ X)) inner = entered.covered (R ++ X) (λ v t h. allows_right R X v t h) (covers_more R X known c) in
+      let first : All (Covers (R ++ X)) inner = entered.covered (R ++ X) (λ v t h. allows_right R X v t h) (covers_more R X known c) in
+      let second : All (Covers (R ++ X)) more = later.covered (R ++ X) (λ v t h. allows_left (restrictions A) (restrictions B) v t (allows_right R X v t h)) first in
       ⊎_elim
-      (λ (x : is_needed q here (R ++ X) A ≡ true). b.kept q (a.needed (R ++ X) now q here w x))
-      (λ (y : is_needed q here (R ++ X) B ≡ true). b.needed (R ++ X) now q here w y)
+      (λ (x : is_needed q here (R ++ X) A ≡ true). b.kept q (a.needed (R ++ X) first q here w x))
+      (λ (y : is_needed q here (R ++ X) B ≡ true). b.needed (R ++ X) second q here w y)
       (or_cases (is_needed q here (R ++ X) A) (is_needed q here (R ++ X) B) n);
 }
 
@@ -172,6 +174,14 @@ pub open_added : (graph : WantedGraph) (known none : List Restricted) (A : Algeb
 open_added graph known none A old new empty a = record {
   kept = a.kept;
   needed = λ R c q here w n. a.needed [] (subst (All (Covers [])) (sym empty) (All-nil (Covers []))) q here w n;
+}
+
+-- the same without restrictions
+pub free_added : (needs : QuadParts → Bool → List Restriction → Bool) (graph : WantedGraph) (known none : List Restricted) (old new : List Shape) → none ≡ []
+    → AreAdded needs graph none old new → AreAdded needs graph known old new
+free_added needs graph known none old new empty a = record {
+  kept = a.kept;
+  needed = λ R c q here w n. a.needed R (subst (All (Covers R)) (sym empty) (All-nil (Covers R))) q here w n;
 }
 
 -- the same for what is needed as well

@@ -4,7 +4,8 @@ use Rattle.std.specs.List.{list_any}
 use Rattle.std.specs.Option.{option_map}
 use Rattle.std.specs.Str.{bytes_eq}
 use Rattle.std.proofs.lemmas.Bool.{and_parts, eq-eqb, or_cases, or_left, or_right, false≢true, not_from_true}
-use Rattle.std.proofs.lemmas.List.{map_more, map_push}
+use Rattle.std.proofs.lemmas.List.{append-nil, map_more, map_push}
+use Rattle.std.proofs.Math.Seq.{take-append_seam}
 use Rattle.std.proofs.lemmas.List.Elements.{All-push}
 use Rattle.std.proofs.lemmas.Result.{on_ok_weaker}
 use Rattle.std.proofs.lemmas.Option.{none-some, same_Some}
@@ -145,3 +146,11 @@ restricted_as r A B old new is h = on_ok_weaker r (λ b. subst (λ X. AreRestric
 pub restricted_join : {E : Type 0} (r : Result (Unit {0}) E) (A L R : Algebra) (old mid new : List Restricted) → A ≡ Join L R
     → AreRestricted (restrictions L) old mid → OnOk r (AreRestricted (restrictions R) mid new) → OnOk r (AreRestricted (restrictions A) old new)
 restricted_join r A L R old mid new is a h = restricted_as r A (Join L R) old new is (on_ok_weaker r (λ b. restricted_two (restrictions L) (restrictions R) old mid new a b) h)
+
+-- ---- nothing is added
+
+-- what was added is taken away again
+pub nothing_added : (X : List Restriction) (old mid new : List Restricted) (n : ℕ) → n ≡ length old → new ≡ take n mid → AreRestricted X old mid → AreRestricted X old new
+nothing_added X old mid new n len cut added =
+    let same : new ≡ old = cut ∙ (λ i. take (len i) (added.begins i)) ∙ take-append_seam old added.more in
+    record { more = []; begins = same ∙ sym (append-nil old); covered = λ R a c. subst (All (Covers R)) (sym same) c }

@@ -11,17 +11,19 @@ use Rattle.needed_quads.specs.Needed.{is_needed, needs_triples}
 use Rattle.needed_quads.specs.Restriction.{Restriction, restrictions}
 use Rattle.needed_quads.specs.declared.restricted.Restricted.{Restricted}
 use Rattle.needed_quads.specs.Building.{AllowsOnly, AreAdded, AreNamesWanted, AreRestricted, Covers, HasGraph, are_some}
-use Rattle.needed_quads.proofs.BuildingLaws.{graph_added, join_added, known_added, left_added, needs_of, open_added, as_needed, tree_added, union_added}
+use Rattle.needed_quads.proofs.BuildingLaws.{free_added, graph_added, join_added, known_added, left_added, needs_of, open_added, as_needed, tree_added, union_added}
 
 -- ---- a Join
 
-pub join_on : (graph : WantedGraph) (known inner next : List Restricted) (A L R : Algebra) (old mid new : List Shape) → A ≡ Join L R
+pub join_on : (graph : WantedGraph) (known inner next more : List Restricted) (A L R : Algebra) (old mid new : List Shape) → A ≡ Join L R
     → AreRestricted (restrictions A) known inner
-    → AreAdded (needs_of L) graph inner old mid → next ≡ inner → AreAdded (needs_of R) graph next mid new
+    → AreAdded (needs_of L) graph inner old mid → next ≡ inner
+    → AreRestricted (restrictions L) next more → AreAdded (needs_of R) graph more mid new
     → AreAdded (needs_of A) graph known old new
-join_on graph known inner next A L R old mid new is entered a same b =
+join_on graph known inner next more A L R old mid new is entered a same later b =
     tree_added graph known A (Join L R) old new is
-    (join_added graph known inner L R old mid new (subst (λ X. AreRestricted (restrictions X) known inner) is entered) a (known_added (needs_of R) graph inner next mid new same b))
+    (join_added graph known inner more L R old mid new (subst (λ X. AreRestricted (restrictions X) known inner) is entered)
+    (subst (λ l. AreRestricted (restrictions L) l more) same later) a b)
 
 -- ---- the same for an input of an operator as for the tree in its box
 
@@ -32,6 +34,10 @@ added_as graph known a b old new e h = subst (λ x. AreAdded (needs_of (algebra_
 pub on_ok_as : {E : Type 0} (r : Result (Unit {0}) E) (graph : WantedGraph) (known : List Restricted) (a b : Operator) (old new : List Shape) → a ≡ b
     → OnOk r (AreAdded (needs_of (algebra_of a)) graph known old new) → OnOk r (AreAdded (needs_of (algebra_of b)) graph known old new)
 on_ok_as r graph known a b old new e h = on_ok_weaker r (added_as graph known a b old new e) h
+
+pub restricted_as : (known inner : List Restricted) (a b : Operator) → a ≡ b
+    → AreRestricted (restrictions (algebra_of a)) known inner → AreRestricted (restrictions (algebra_of b)) known inner
+restricted_as known inner a b e h = subst (λ x. AreRestricted (restrictions (algebra_of x)) known inner) e h
 
 pub covered_as : (inner : List Restricted) (a b : Operator) → a ≡ b
     → ((X : List Restriction) → AllowsOnly (restrictions (algebra_of a)) X → All (Covers X) inner)
@@ -76,3 +82,8 @@ module _ {E : Type 0} (r : Result (Unit {0}) E) (graph : WantedGraph) (known : L
       → OnOk r (AreAdded (needs_of B) names known mid new) → OnOk r (AreAdded (needs_of A) graph known old new)
   graph_on now names A i B old mid new is same named kept whole h =
       on_ok_weaker r (λ b. tree_added graph known A (Graph i B) old new is (graph_added graph names known i B old mid new (subst (λ l. AreNamesWanted l i names) same named) kept whole b)) h
+
+  -- the same for an input of which nothing is known
+  pub free_on : (none : List Restricted) (B : Algebra) (old new : List Shape) → none ≡ []
+      → OnOk r (AreAdded (needs_of B) graph none old new) → OnOk r (AreAdded (needs_of B) graph known old new)
+  free_on none B old new empty h = on_ok_weaker r (λ b. free_added (needs_of B) graph known none old new empty b) h

@@ -1,16 +1,17 @@
 //! The filter of a plan.
-ghost use Rattle.std.specs.Prelude.{◌≡◌, true, false, [], None, IfOk, OnOk};
+ghost use Rattle.std.specs.Prelude.{◌≡◌, All, List, true, false, [], None, IfOk, OnOk};
 ghost use Rattle.std.specs.Option.{option_eq};
 ghost use Rattle.rdf_core.specs.QuadParts.{QuadParts};
 ghost use Rattle.rdf_core.specs.Equality.{term_eq};
 ghost use Rattle.quad_filter.specs.Filter.{keeps};
 ghost use Rattle.sparql_algebra.specs.AlgebraOf.{algebra_of};
 ghost use Rattle.needed_quads.specs.Needed.{is_needed, needs_triples};
-ghost use Rattle.needed_quads.specs.Restriction.{restrictions};
-ghost use Rattle.needed_quads.specs.Building.{AreAdded, AreRestricted, HasGraph, are_some};
+ghost use Rattle.needed_quads.specs.Restriction.{Restriction, restrictions};
+ghost use Rattle.needed_quads.specs.Building.{AllowsOnly, AreAdded, AreRestricted, Covers, HasGraph, are_some};
 
-use crate::restricted::{Restricted, add_restricted, restricted_by};
+use crate::restricted::{Restricted, add_restricted};
 use crate::shapes::{ShapeFault, add_graph, add_triples, wanted_graph};
+use crate::trees::{expressions_need_triples, has_expression, needs_triples};
 use quad_filter::{QuadFilter, Shape, WantedGraph};
 use sparql_algebra::{Operator, Plan};
 use std::alloc::{AllocError, Global};
@@ -18,7 +19,7 @@ use std::alloc::{AllocError, Global};
 /// Returns a filter that keeps each quad that the solutions of a plan need.
 ///
 /// It may keep others: if a query has many triple patterns, or VALUES many terms, the filter keeps every quad, or every term at
-/// a position.
+/// a position. It also keeps the quads of rows over which an expression is evaluated, since notes count its errors.
 ///
 /// # Errors
 /// `AllocError` if an allocation fails.
@@ -39,14 +40,15 @@ pub fn filter_of(alloc: Global, plan: &Plan) -> Result<QuadFilter, AllocError>
 
 /// Adds the shapes of the quads that a tree needs in these graphs, and in those that it names.
 ///
-/// The solutions that fit what is known of variables are those that matter. `in_join` is whether the tree is an input of a
-/// Join. Then `known` has the variables that the tree restricts already.
+/// The solutions that fit what is known of variables are those that matter. Nothing is known if an expression is in the tree,
+/// but for a GRAPH, whose names alone are then restricted. `is_known` is whether `known` has the variables that the tree restricts
+/// already, as an input of a Join.
 fn add_tree(
     alloc: Global,
     tree: &Operator,
     graph: &WantedGraph,
     known: &mut Vec<Restricted>,
-    in_join: bool,
+    is_known: bool,
     shapes: &mut Vec<Shape>,
 ) -> Result<(), ShapeFault>
     ensures added { OnOk result (AreAdded (λ q here R. is_needed q here R (algebra_of tree.now))
@@ -59,15 +61,16 @@ fn add_tree(
         }
         Operator::Join { left, right } => {
             let outer = known.len();
-            add_unless(in_join, alloc, tree, known)?;
-            add_tree(alloc, left, graph, known, true, shapes)?;
-            add_tree(alloc, right, graph, known, true, shapes)?;
+            let are_known = add_unless(is_known, alloc, tree, known)?;
+            add_tree(alloc, left, graph, known, are_known, shapes)?;
+            add_before(are_known, alloc, left, right, known)?;
+            add_tree(alloc, right, graph, known, are_known, shapes)?;
             known.truncate(outer);
             Ok(())
         }
         Operator::LeftJoin { left, right, .. } | Operator::Minus { left, right } => {
             add_tree(alloc, left, graph, known, false, shapes)?;
-            let mut inner = restricted_by(alloc, left)?;
+            let mut inner = restricted_before(alloc, left, right)?;
             add_tree(alloc, right, graph, &mut inner, false, shapes)
         }
         Operator::Union { left, right } => {
@@ -77,6 +80,10 @@ fn add_tree(
         Operator::Graph { name, inner } => {
             let names = wanted_graph(alloc, name, known.as_slice())?;
             add_whole(alloc, inner, &names, shapes)?;
+            if !known.is_empty() && has_expression(inner) {
+                let mut none = Vec::new(alloc);
+                return add_tree(alloc, inner, &names, &mut none, false, shapes);
+            }
             add_tree(alloc, inner, &names, known, false, shapes)
         }
         Operator::Filter { inner, .. } | Operator::Extend { inner, .. } => {
@@ -90,23 +97,71 @@ fn add_tree(
     }
 }
 
-/// Adds the variables that a tree restricts, unless they are known.
+/// Adds the variables that a tree restricts, unless they are known already or an expression is in the tree.
+///
+/// Returns whether `known` has all of them.
 fn add_unless(
     are_known: bool,
     alloc: Global,
     tree: &Operator,
     known: &mut Vec<Restricted>,
-) -> Result<(), AllocError>
+) -> Result<bool, AllocError>
     ensures restricted { OnOk result
         (AreRestricted (restrictions (algebra_of tree.now)) known.old.items known.new.items) }
 {
     if are_known {
-        return Ok(());
+        return Ok(true);
     }
-    add_restricted(alloc, tree, known)
+    let outer = known.len();
+    add_restricted(alloc, tree, known)?;
+    if known.len() > outer && has_expression(tree) {
+        known.truncate(outer);
+        return Ok(false);
+    }
+    Ok(true)
 }
 
-/// Adds the shape of all quads of these graphs, if a solution of the tree may come of a graph without triples.
+/// Adds the variables that a tree restricts for another one that is evaluated after it, unless they are known already.
+///
+/// If an expression is in the other tree, it is evaluated over rows that the first tree excludes, too. So nothing is added then,
+/// but for a GRAPH, which goes over the names alone that the rows of the first tree have.
+fn add_before(
+    are_known: bool,
+    alloc: Global,
+    first: &Operator,
+    second: &Operator,
+    known: &mut Vec<Restricted>,
+) -> Result<(), AllocError>
+    ensures restricted { OnOk result
+        (AreRestricted (restrictions (algebra_of first.now)) known.old.items known.new.items) }
+{
+    if are_known {
+        return Ok(());
+    }
+    let outer = known.len();
+    add_restricted(alloc, first, known)?;
+    if known.len() > outer && !is_graph(second) && has_expression(second) {
+        known.truncate(outer);
+    }
+    Ok(())
+}
+
+/// Returns the variables that a tree restricts for another one that is evaluated after it.
+fn restricted_before(
+    alloc: Global,
+    first: &Operator,
+    second: &Operator,
+) -> Result<Vec<Restricted>, AllocError>
+    ensures covered { IfOk result (λ known. (R : List Restriction)
+        → AllowsOnly (restrictions (algebra_of first.now)) R → All (Covers R) known.items) }
+{
+    let mut known = Vec::new(alloc);
+    add_before(false, alloc, first, second, &mut known)?;
+    Ok(known)
+}
+
+/// Adds the shape of all quads of these graphs, if a solution of the tree, or a row of one of its expressions, may come of a
+/// graph without triples.
 fn add_whole(
     alloc: Global,
     tree: &Operator,
@@ -118,25 +173,13 @@ fn add_whole(
     ensures added { OnOk result (needs_triples (algebra_of tree.now) ≡ false
         → HasGraph graph.now shapes.new.items) }
 {
-    if needs_triples(tree) {
+    if needs_triples(tree) && expressions_need_triples(tree) {
         return Ok(());
     }
     add_graph(alloc, graph, shapes)
 }
 
-/// Returns whether no solution of the tree comes of a graph without triples.
-fn needs_triples(tree: &Operator) -> bool
-    ensures value { result ≡ needs_triples (algebra_of tree.now) }
-{
-    match tree {
-        Operator::Pattern { triples, .. } => !triples.is_empty(),
-        Operator::Join { left, right } => needs_triples(left) || needs_triples(right),
-        Operator::Union { left, right } => needs_triples(left) && needs_triples(right),
-        Operator::LeftJoin { left, .. } | Operator::Minus { left, .. } => needs_triples(left),
-        Operator::Filter { inner, .. }
-        | Operator::Extend { inner, .. }
-        | Operator::Project { inner, .. }
-        | Operator::Distinct { inner } => needs_triples(inner),
-        Operator::Graph { .. } | Operator::Table { .. } => false,
-    }
+/// Returns whether a tree is a GRAPH.
+fn is_graph(tree: &Operator) -> bool {
+    matches!(tree, Operator::Graph { .. })
 }

@@ -1,11 +1,11 @@
 //! Variables whose terms VALUES lists (SPARQL 1.1 Query Language, section 10.2).
-ghost use Rattle.std.specs.Prelude.{◌≡◌, ◌∷◌, [], All, List, Some, map, IfOk, IfSome, OnOk};
+ghost use Rattle.std.specs.Prelude.{◌≡◌, ◌∷◌, [], Some, map, IfOk, IfSome, OnOk};
 ghost use Rattle.rdf_core.specs.declared.term.Term.{Term};
 ghost use Rattle.rdf_core.specs.Serialization.{serialization};
 ghost use Rattle.algebra_model.specs.Algebra.{Table};
 ghost use Rattle.sparql_algebra.specs.AlgebraOf.{algebra_of};
-ghost use Rattle.needed_quads.specs.Restriction.{Restriction, allows, restrictions};
-ghost use Rattle.needed_quads.specs.Building.{AllowsOnly, AreForms, AreRestricted, AreWanted, Covers};
+ghost use Rattle.needed_quads.specs.Restriction.{allows, restrictions};
+ghost use Rattle.needed_quads.specs.Building.{AreForms, AreRestricted, AreWanted};
 
 use crate::forms::{copy_wanted, form_of};
 use quad_filter::Wanted;
@@ -48,17 +48,7 @@ pub(crate) fn wanted_variable(
     Ok(Wanted::Any)
 }
 
-/// Returns the variables that a tree restricts. In each of its solutions such a variable has one of its terms.
-pub(crate) fn restricted_by(alloc: Global, tree: &Operator) -> Result<Vec<Restricted>, AllocError>
-    ensures covered { IfOk result (λ known. (R : List Restriction)
-        → AllowsOnly (restrictions (algebra_of tree.now)) R → All (Covers R) known.items) }
-{
-    let mut known = Vec::new(alloc);
-    add_restricted(alloc, tree, &mut known)?;
-    Ok(known)
-}
-
-/// Adds the variables that a tree restricts.
+/// Adds the variables that a tree restricts. In each of its solutions such a variable has one of its terms.
 pub(crate) fn add_restricted(
     alloc: Global,
     tree: &Operator,

@@ -8,7 +8,7 @@
 //! (`one_outcome` of [`laws`]).
 //!
 //! [`run`] states the same for a command over a reader and a writer, and what is left on each error. It plans a query before it
-//! reads, validates every line, and keeps only quads that the plan needs (`needed_quads`). A command has
+//! reads, validates every line, and may leave out quads that the plan does not need (`needed_quads`). A command has
 //! at most one output for a document (`one_output`). [`run_words`] states it for the words of a command line, and
 //! [`finish`] of `spq_run` states how the program ends. [`Notes`] are for messages to the user, and no clause depends on
 //! them. A [`Progress`] is told of each failure that becomes `Memory` or `WorkerRefused` (clause `cause` of [`run_words`]).

@@ -9,7 +9,7 @@ use query_notes::Outline;
 /// What a run is doing.
 #[derive(Clone, Copy)]
 pub enum Stage {
-    /// Checking the command line and the query.
+    /// Checking the command line and the query, and planning the query.
     Checking,
     /// Reading the document and its lines.
     Reading,

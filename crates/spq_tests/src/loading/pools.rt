@@ -3,7 +3,7 @@ ghost use Rattle.std.specs.Prelude.{◌≡◌};
 ghost use Rattle.piece_board.specs.Pass.{unused};
 ghost use Rattle.piece_pool.specs.Worked.{IsWorked};
 
-use crate::fixtures::{Counter, Meeting, Numbers};
+use crate::fixtures::{Numbers, Recorder};
 use crate::loading::boards::{open_two, pair};
 use piece_board::{Board, Pass};
 use piece_pool::{Gate, Job, OffsetGate, Outcome, Worked, gather, run_all_with, run_pieces, work};
@@ -15,7 +15,7 @@ use std::thread::Threads;
 #[test]
 fn each_piece_passes_the_gate_once(rt: HostRuntime) {
     for workers in 1..5 {
-        let gate = Counter::new();
+        let gate = Recorder::counting();
         let job = Numbers::sound_below(4);
         let outcome = run_pieces(&rt, rt.alloc(), workers, 16, &job, &gate).expect(&rt, "a run");
         let is_first = match outcome {
@@ -43,7 +43,7 @@ fn are_in_order(outcome: &Outcome<u64, u64>) -> bool {
 /// joined, the wait would have reached its limit. (Piece 0 is number 1 of the meeting, and piece 1 does not wait.)
 #[test]
 fn a_task_meets_a_worker(rt: HostRuntime) {
-    let meeting = Meeting::new();
+    let meeting = Recorder::meeting();
     let gate = OffsetGate {
         gate: &meeting,
         first: 1,
@@ -102,7 +102,7 @@ where
 /// piece again.
 #[test]
 fn two_threads_work_on_one_board(rt: HostRuntime) {
-    let gate = Meeting::new();
+    let gate = Recorder::meeting();
     let job = Numbers::sound_below(2);
     let (board, a, b) = open_two(rt.alloc()).expect(&rt, "a board");
     let (one, other) = work_twice(&rt, rt.alloc(), &board, a, b, &job, &gate);

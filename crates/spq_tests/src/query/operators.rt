@@ -1,6 +1,6 @@
 //! The operators over rows of two variables, and the printing of rows. Two workers meet in those that run over
 //! pieces.
-use crate::fixtures::{Meeting, text};
+use crate::fixtures::{Recorder, text};
 use crate::query::rows::{HOW, hash_state, two_rows};
 use result_json::{Table, print_rows};
 use sparql_algebra::Expr;
@@ -13,7 +13,7 @@ fn operators_go_over_rows(rt: HostRuntime) {
     let alloc = rt.alloc();
     let state = hash_state(&rt);
     let (rows, dict) = two_rows(&rt, alloc);
-    let gate = Meeting::new();
+    let gate = Recorder::meeting();
     let (rows, dict) = extend(
         &rt,
         alloc,
@@ -27,10 +27,10 @@ fn operators_go_over_rows(rt: HostRuntime) {
     )
     .expect(&rt, "extend");
     assert!(rt; gate.is_met(), "extend");
-    let gate = Meeting::new();
+    let gate = Recorder::meeting();
     let (rows, dict) = join(&rt, alloc, state, dict, &rows, &rows, &HOW, &gate).expect(&rt, "join");
     assert!(rt; gate.is_met(), "join");
-    let gate = Meeting::new();
+    let gate = Recorder::meeting();
     let (rows, dict) = left_join(
         &rt,
         alloc,
@@ -52,12 +52,12 @@ fn operators_go_over_rows(rt: HostRuntime) {
 fn rows_are_filtered_and_taken_away(rt: HostRuntime) {
     let alloc = rt.alloc();
     let (rows, dict) = two_rows(&rt, alloc);
-    let gate = Meeting::new();
+    let gate = Recorder::meeting();
     let (rows, dict) = filter(&rt, alloc, dict, &rows, &Expr::Bound(0), &HOW, &gate).expect(
         &rt, "filter",
     );
     assert!(rt; gate.is_met(), "filter");
-    let gate = Meeting::new();
+    let gate = Recorder::meeting();
     let state = hash_state(&rt);
     let (none, dict) = minus(&rt, alloc, state, dict, &rows, &rows, &HOW, &gate).expect(
         &rt, "minus",
@@ -92,7 +92,7 @@ fn rows_are_printed(rt: HostRuntime) {
         offset: 0,
         limit: None,
     };
-    let gate = Meeting::new();
+    let gate = Recorder::meeting();
     let blocks = print_rows(&rt, alloc, &table, rows, &HOW, &gate).expect(&rt, "the blocks");
     assert!(rt; gate.is_met());
     assert!(rt; blocks.len() == 4);

@@ -2,10 +2,12 @@
 ghost use Rattle.std.specs.Prelude.{length};
 ghost use Rattle.dict_core.specs.NumQuad.{AreBelow};
 
-use crate::fixtures::Meeting;
+use crate::fixtures::Recorder;
 use crate::query::rows::{HOW, hash_state};
-use dataset_load::load;
+use dataset_load::{LoadNotes, NoListener, load, load_reader};
 use dict_core::Dict;
+use needed_quads::filter_of;
+use nquads_core::Device;
 use piece_cuts::Cuts;
 use piece_pool::OpenGate;
 use quad_index::Index;
@@ -18,14 +20,15 @@ use std::random::RandomSource;
 use std::sync::Wait;
 use std::thread::Threads;
 
-/// Loads a document with two statements in the default graph and one in a named graph.
+/// A document with two statements in the default graph and one in a named graph.
+const DOCUMENT: &[u8] = b"<a:x> <a:p> <a:y> .\n<a:y> <a:q> <a:z> .\n<a:x> <a:p> <a:z> <a:g> .\n";
+
+/// Loads the document.
 fn stored<R: RandomSource + Threads + Wait + Abort>(rt: &R, alloc: Global) -> (Dict, Index)
     ensures below { AreBelow (length result.0) result.1 }
 {
-    let document =
-        "<a:x> <a:p> <a:y> .\n<a:y> <a:q> <a:z> .\n<a:x> <a:p> <a:z> <a:g> .\n".as_bytes();
-    let cuts = Cuts::every(alloc, document, 1).expect(rt, "cuts");
-    let store = load(rt, alloc, document, &cuts, 1, &OpenGate).expect(rt, "a store");
+    let cuts = Cuts::every(alloc, DOCUMENT, 1).expect(rt, "cuts");
+    let store = load(rt, alloc, DOCUMENT, &cuts, 1, &OpenGate).expect(rt, "a store");
     store.into_parts()
 }
 
@@ -51,6 +54,29 @@ fn a_query_has_its_plan_and_solutions(rt: HostRuntime) {
     assert!(rt; rows.get(0, 0).is_some() != rows.get(1, 0).is_some());
 }
 
+/// Of three statements, the filter of a plan keeps the one that its triple pattern can match.
+#[test]
+fn a_filter_leaves_out_quads(rt: HostRuntime) {
+    let alloc = rt.alloc();
+    let plan = plan_of(&rt, alloc, "SELECT ?o { ?s <a:q> ?o }");
+    let filter = filter_of(alloc, &plan).expect(&rt, "a filter");
+    let mut reader = Device { inner: DOCUMENT };
+    let mut notes = LoadNotes::new();
+    let store = load_reader(
+        &rt,
+        alloc,
+        1,
+        &mut reader,
+        &filter,
+        1,
+        &OpenGate,
+        &mut notes,
+        &NoListener,
+    )
+    .expect(&rt, "a store");
+    assert!(rt; store.quads() == 1 && store.terms() == 3);
+}
+
 /// No query has a label as a predicate.
 #[test]
 fn a_pattern_is_matched(rt: HostRuntime) {
@@ -61,7 +87,7 @@ fn a_pattern_is_matched(rt: HostRuntime) {
         predicate: PatternTerm::Label(1),
         object: PatternTerm::Label(0),
     }];
-    let gate = Meeting::new();
+    let gate = Recorder::meeting();
     let (rows, dict) = pattern(&rt, alloc, dict, &index, None, 1, 2, &triples, &HOW, &gate).expect(
         &rt, "rows",
     );

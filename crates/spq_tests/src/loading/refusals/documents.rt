@@ -1,7 +1,7 @@
 //! What is left of a load after a failed allocation or a worker thread that could not be started, for each of them.
 ghost use Rattle.std.specs.Prelude.{◌≤◌};
 
-use crate::fixtures::Counter;
+use crate::fixtures::Recorder;
 use dataset_load::{
     LoadNotes, NoListener, ReaderFault, Store, count_reader, load, load_blocks, load_reader,
     read_blocks,
@@ -34,7 +34,7 @@ fn in_pieces<R: Threads + Wait + RandomSource>(
     alloc: Global,
     doc: &[u8],
     workers: usize,
-    gate: &Counter,
+    gate: &Recorder,
 ) -> Counts
     requires workers { (1 ≤ workers) × (workers ≤ 64) }
 {
@@ -51,7 +51,7 @@ fn in_blocks<R: Threads + Wait + RandomSource>(
     alloc: Global,
     doc: &[u8],
     workers: usize,
-    gate: &Counter,
+    gate: &Recorder,
 ) -> Counts
     requires workers { (1 ≤ workers) × (workers ≤ 64) }
 {
@@ -77,7 +77,7 @@ fn from_reader<R: Threads + Wait + RandomSource + Print>(
     alloc: Global,
     doc: &[u8],
     workers: usize,
-    gate: &Counter,
+    gate: &Recorder,
 ) -> Counts
     requires workers { (1 ≤ workers) × (workers ≤ 64) }
 {
@@ -108,7 +108,7 @@ fn counted<R: Threads + Wait + RandomSource + Print>(
     alloc: Global,
     doc: &[u8],
     workers: usize,
-    gate: &Counter,
+    gate: &Recorder,
 ) -> Counts
     requires workers { (1 ≤ workers) × (workers ≤ 64) }
 {
@@ -139,7 +139,7 @@ fn read<R: Threads + Wait + RandomSource + Print>(
     manner: u64,
     doc: &[u8],
     workers: usize,
-    gate: &Counter,
+    gate: &Recorder,
 ) -> Counts
     requires workers { (1 ≤ workers) × (workers ≤ 64) }
 {
@@ -172,7 +172,7 @@ fn check<R: Threads + Wait + RandomSource + Print + Abort>(
 ) {
     for workers in 1..3 {
         for manner in 0..4 {
-            let gate = Counter::new();
+            let gate = Recorder::counting();
             let mut found = read(rt, alloc, manner, doc, workers, &gate);
             if has_failed(rt, &found) {
                 found = read(rt, alloc, manner, doc, workers, &gate);
