@@ -840,6 +840,11 @@ def daily_queries():
     yield [labels, ("optional", [having((SEE, "h"))], None), where("or", ("not", ("bound", var("h"))), compare("=", "h", ("term", ("iri", "http://e/home1"))))], 0
     yield [dates, ("optional", [having((ISSUED, "y")), where(*compare("<", "y", "d"))], None)], 1
     yield [having((SEE, "h")), ("bind", ("STR", var("h")), "text", Site()), where("isLITERAL", var("h"))], 0
+    # VALUES excludes rows later, or before GRAPH.
+    unequal = [having((LABEL, "l"), subject="c"), where(*compare("!=", "l", value_of("")))]
+    yield [("group", [labels, where(*compare("!=", "l", value_of("")))]), ("values", "p", [("iri", "http://e/plugin0")])], 1
+    yield [("graph", var("g"), unequal), ("values", "g", GRAPHS[:1])], 1
+    yield [("values", "g", GRAPHS[:1]), ("graph", var("g"), unequal)], 1
     classes = ("triples", [(var("c"), TYPE, CLASSES[0])])
     unlabelled = ("minus", [having((LABEL, "l"), subject="c")])
     yield [("graph", var("g"), [classes, unlabelled])], 0
