@@ -212,7 +212,7 @@ fn negated(truth: Option<bool>) -> Option<bool>
 }
 
 /// Returns the value of an expression as a term, or None if it is an error. The terms of variables
-/// and constants are borrowed.
+/// and constants are borrowed, without a call of [`evaluate`].
 #[cycle(evaluate)]
 fn evaluate_held<'a, R: Lookup>(
     alloc: Global,
@@ -223,9 +223,16 @@ fn evaluate_held<'a, R: Lookup>(
         option_map held_term value ≡ val (expression_of expr.entry.now) (R.solution row.entry.now)) }
     ensures is_borrowed { is_borrowed expr.entry.now ≡ true → IsOk result }
 {
-    match evaluate(alloc, expr, row)? {
-        Some(value) => Ok(Some(value.into_held(alloc)?)),
-        None => Ok(None),
+    match expr {
+        Expr::Variable(variable) => match row.get(*variable) {
+            Some(term) => Ok(Some(Held::Borrowed(term))),
+            None => Ok(None),
+        },
+        Expr::Constant(term) => Ok(Some(Held::Borrowed(term))),
+        _ => match evaluate(alloc, expr, row)? {
+            Some(value) => Ok(Some(value.into_held(alloc)?)),
+            None => Ok(None),
+        },
     }
 }
 
@@ -352,8 +359,8 @@ fn evaluate_call<'a, R: Lookup>(
 }
 
 /// Evaluates `item IN (list)`: returns whether the item is equal to a member, or None for an error.
-/// It is an error if no comparison is true and at least one is an error. The item's value is known,
-/// so it is not computed again for each member.
+/// It is an error if no comparison is true and at least one is an error. The loop ends at the first
+/// member that is equal. The item's value is known, so it is not computed again for each member.
 #[cycle(evaluate)]
 fn evaluate_member<R: Lookup>(
     alloc: Global,
@@ -369,6 +376,9 @@ fn evaluate_member<R: Lookup>(
     for member in list {
         let value = evaluate_held(alloc, member, row)?;
         let equal = equal_member(item, &value);
+        if equal == Some(true) {
+            return Ok(equal);
+        }
         found = either(found, equal);
     }
     Ok(found)

@@ -1,4 +1,4 @@
-use Rattle.std.proofs.Common.{◌≡◌, ◌∙◌, Some, ap, arith, sym, map, option_map}
+use Rattle.std.proofs.Common.{rules, ◌≡◌, ◌∙◌, Some, ap, arith, sym, map, option_map, true}
 use Rattle.std.proofs.lemmas.Bool.{false≢true}
 use Rattle.std.proofs.lemmas.Result.{IfOk-weaker}
 use Rattle.rdf_core.specs.Equality.{term_eq}
@@ -11,7 +11,7 @@ use Rattle.expression_values.specs.MemberTruth.{member_truth}
 use Rattle.expression_values.specs.NoAllocation.{are_borrowed, is_borrowed, takes_none}
 use Rattle.expression_values.specs.declared.expression.Expr.{size-Expr}
 use Rattle.expression_values.proofs.FoldSteps.{and_deeper, in_stands_for, or_deeper}
-use Rattle.expression_values.proofs.LogicSteps.{in_value, member_step}
+use Rattle.expression_values.proofs.LogicSteps.{in_value, member_found, member_step}
 use Rattle.expression_values.proofs.MemorySteps.{and_need, and_sides, call_need, call_sides, compare_need, compare_sides, in_need, in_sides, member_borrowed, not_need, or_need, or_sides, same_term_need, same_term_sides}
 use Rattle.expression_values.proofs.OperandSteps.{and_moves, or_moves, truth}
 use Rattle.expression_values.proofs.ValueSteps.{and_value, call_of_value, compare_value, not_borrowed, not_value, or_value, same_term_value, valued_as}
@@ -39,6 +39,19 @@ evaluate_member-loop-member-preserved g t c =
     (option_map valued_term c.args.item.now) (g.R.Lookup.solution c.args.row.now) c.loop-member.found c.equal_member-equal.result
     (member_truth (option_map valued_term c.args.item.now) (map expression_of c.args.list.now) (g.R.Lookup.solution c.args.row.now))
     c.loop-member-test.true e c.loop-member.invariant)
+
+-- a member that is equal makes the whole true, whatever the rest is
+pub evaluate_member-returns-then-eq-clause-truth : goal.evaluate_member-returns-then-eq-clause-truth
+evaluate_member-returns-then-eq-clause-truth g t c =
+    let μ = g.R.Lookup.solution c.args.row.now in
+    let item = option_map valued_term c.args.item.now in
+    let here = c.equal_member-equal.ensures.compared
+    ∙ ap (λ v. with_values item v (compares equal))
+    (c.in_ok-value.ensures.value ∙ ap (λ y. val (expression_of y) μ) c.member-item.is) in
+    let is : c.equal_member-equal.result ≡ Some true = search rules in
+    is ∙ member_found expression_of c.args.list.now c.loop-member.member-index c.member-item.result item μ
+    c.loop-member.found c.equal_member-equal.result (member_truth item (map expression_of c.args.list.now) μ)
+    c.loop-member-test.true here c.loop-member.invariant is
 
 pub evaluate_or-operands-preserved : goal.evaluate_or-operands-preserved
 evaluate_or-operands-preserved g t c =
