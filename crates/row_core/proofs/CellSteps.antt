@@ -1,5 +1,5 @@
 -- Cells and their codes, one by one.
-use Rattle.std.proofs.Common.{◌≡◌, ℕ, zero, suc, ◌+◌, ◌<◌, ◌≤◌, ◌∙◌, Bool, true, false, ◌&&◌, List, [], ◌∷◌, ◌++◌, length, get_or, take, drop, set, map, Option, None, Some, refl, sym, ap, arith, append_assoc}
+use Rattle.std.proofs.Common.{◌≡◌, ℕ, zero, suc, ◌+◌, ◌<◌, ◌≤◌, ◌∙◌, Bool, true, false, ◌&&◌, List, [], ◌∷◌, ◌++◌, length, get_or, take, drop, set, map, Option, None, refl, sym, ap, arith, append_assoc}
 use Rattle.std.specs.List.{list_all}
 use Rattle.std.proofs.lemmas.List.{drop_more, drop_all, drop-map, take-map, take_more, map-append, map-set}
 use Rattle.row_core.specs.Cells.{cell_of, has_code}
@@ -37,11 +37,19 @@ coded-more cells i was old new code low held is pushed =
     ∙ ap (λ (r : List (Option ℕ)). map cell_of was ++ r) (sym (take_more cells i None low))
 
 -- the cells of a part of the codes
-pub cells-read : (codes : List ℕ) (a k w : ℕ) → k ≡ w → map cell_of (take k (drop a codes)) ≡ take w (drop a (map cell_of codes))
+cells-read : (codes : List ℕ) (a k w : ℕ) → k ≡ w → map cell_of (take k (drop a codes)) ≡ take w (drop a (map cell_of codes))
 cells-read codes a k w e =
     sym (take-map cell_of k (drop a codes))
     ∙ ap (take k) (sym (drop-map cell_of a codes))
     ∙ ap (λ (n : ℕ). take n (drop a (map cell_of codes))) e
+
+-- the cells of a part of codes that are held
+pub part-read : (codes part : List ℕ) (cells : List (Option ℕ)) (a k w : ℕ) → cells ≡ map cell_of codes → k ≡ w → part ≡ codes
+    → map cell_of (take k (drop a part)) ≡ take w (drop a cells)
+part-read codes part cells a k w is e same =
+    ap (λ (r : List ℕ). map cell_of (take k (drop a r))) same
+    ∙ cells-read codes a k w e
+    ∙ ap (λ (r : List (Option ℕ)). take w (drop a r)) (sym is)
 
 -- the largest code is that of an unbound cell
 pub code-unbound : (codes : List ℕ) (at : ℕ) → map cell_of (set codes at 4294967295) ≡ set (map cell_of codes) at None

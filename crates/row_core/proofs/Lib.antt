@@ -1,4 +1,5 @@
 pub mod RowSteps
 pub mod CellSteps
 mod RestrictSteps
+mod MergeSteps
 pub mod TurnLaws

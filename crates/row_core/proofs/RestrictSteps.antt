@@ -2,13 +2,13 @@
 use Rattle.std.proofs.Common.{◌≡◌, ℕ, zero, suc, ◌+◌, ◌*◌, ◌<◌, ◌≤◌, Bool, true, false, List, [], ◌∷◌, ◌++◌, length, get_or, take, drop, set, map, Option, None, refl, sym, ap, ◌∙◌, arith, add-one, append-nil, subst, if◌then◌else◌}
 use Rattle.std.proofs.Math.Nat.{suc-mul, zero-mul}
 use Rattle.std.proofs.Math.Seq.{take-append_seam, drop-append_seam}
-use Rattle.std.proofs.lemmas.List.{take_all, drop_all, take-take, drop-take, drop-drop, length-take, length-drop, length-append, map-append, set-append_left, set-append_right}
+use Rattle.std.proofs.lemmas.List.{take_all, drop_all, drop-drop, length-take, length-drop, length-append, map-append, set-append_left, set-append_right}
 use Rattle.std.proofs.lemmas.Slice.{take-put_mid_below, drop-put_mid}
 use borrow.Rule.Slice.PartMut.{put_mid}
 use Rattle.algebra_model.specs.Solution.{Solution}
 use Rattle.algebra_model.specs.Operators.{restrict}
 use Rattle.row_core.specs.RowList.{RowList, rows_in, stride}
-use Rattle.row_core.proofs.RowSteps.{width-shown}
+use Rattle.row_core.proofs.RowSteps.{rows_in-take, width-shown}
 
 keep-suc : (keeps : ℕ → Bool) (μ : Solution ℕ) (i : ℕ) → i < length μ → keeps i ≡ true
     → restrict keeps (take i μ) ++ drop i μ ≡ restrict keeps (take (suc i) μ) ++ drop (suc i) μ
@@ -86,17 +86,8 @@ module _ {X : Type 0} (w s : ℕ) where
       (rows_in-more n (drop s cells)
       ∙ ap (λ (r : List X). rows_in w s n (drop s cells) ++ take w r ∷ []) (drop-drop (n * s) s cells ∙ ap (λ k. drop k cells) (omega arith)))
 
-  -- the rows depend only on their own cells
-  rows_in-take : (n : ℕ) (cells : List X) → w ≤ s → rows_in w s n (take (n * s) cells) ≡ rows_in w s n cells
-  rows_in-take zero cells h = refl
-  rows_in-take (suc n) cells h =
-      let d : suc n * s ≡ s + n * s = suc-mul n s ∙ omega arith in
-      (λ i. take w (take (d i) cells) ∷ rows_in w s n (drop s (take (d i) cells)))
-      ∙ (λ i. take-take w (s + n * s) cells (omega arith) i ∷ rows_in w s n (drop-take s (n * s) cells i))
-      ∙ ap (λ (r : List (List X)). take w cells ∷ r) (rows_in-take n (drop s cells) h)
-
   rows_in-same : (n : ℕ) (a b : List X) → w ≤ s → take (n * s) a ≡ take (n * s) b → rows_in w s n a ≡ rows_in w s n b
-  rows_in-same n a b h e = sym (rows_in-take n a h) ∙ ap (rows_in w s n) e ∙ rows_in-take n b h
+  rows_in-same n a b h e = sym (rows_in-take w s n a h) ∙ ap (rows_in w s n) e ∙ rows_in-take w s n b h
 
   -- the row from a cell on is replaced
   new_row : (a k : ℕ) (cells row : List X) → a ≤ length cells → length row ≡ w → take w (drop a (put_mid a k cells row)) ≡ row

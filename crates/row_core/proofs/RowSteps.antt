@@ -1,7 +1,7 @@
 -- Rows in one list of cells.
-use Rattle.std.proofs.Common.{◌≡◌, ℕ, zero, suc, ◌+◌, ◌*◌, ◌^◌, ◌<◌, ◌≤◌, List, [], ◌∷◌, ◌++◌, length, take, drop, slice_get, get_or, Option, None, Some, refl, sym, ap, ◌∙◌, arith, subst, All}
+use Rattle.std.proofs.Common.{◌≡◌, ℕ, zero, suc, ◌+◌, ◌-◌, ◌*◌, ◌^◌, ◌<◌, ◌≤◌, List, [], ◌∷◌, ◌++◌, length, take, drop, slice_get, get_or, Option, None, Some, refl, sym, ap, ◌∙◌, arith, subst, All}
 use Rattle.std.proofs.Math.Nat.{suc-mul, zero-mul, mul-le-mul_right, le-mul_of_pos_right}
-use Rattle.std.proofs.lemmas.List.{take_all, length-take, length-drop, take-append-le, drop-append-le, drop-drop, get_or-take, get_or-drop}
+use Rattle.std.proofs.lemmas.List.{take_all, take-take, drop-take, length-take, length-drop, take-append-le, drop-append-le, drop-drop, get_or-take, get_or-drop}
 use Rattle.std.proofs.lemmas.Option.{get_or_from_slice_get}
 use Rattle.row_core.specs.RowList.{RowList, rows_in, stride, padded}
 
@@ -53,6 +53,20 @@ module _ {X : Type 0} (w s : ℕ) where
       let ld = length-drop s cells in
       wide-rows_in n (drop s cells) (omega arith) l k d (omega arith)
 
+  -- the rows depend only on their own cells
+  pub rows_in-take : (n : ℕ) (cells : List X) → w ≤ s → rows_in w s n (take (n * s) cells) ≡ rows_in w s n cells
+  rows_in-take zero cells h = refl
+  rows_in-take (suc n) cells h =
+      let d : suc n * s ≡ s + n * s = suc-mul n s ∙ omega arith in
+      (λ i. take w (take (d i) cells) ∷ rows_in w s n (drop s (take (d i) cells)))
+      ∙ (λ i. take-take w (s + n * s) cells (omega arith) i ∷ rows_in w s n (drop-take s (n * s) cells i))
+      ∙ ap (λ (r : List (List X)). take w cells ∷ r) (rows_in-take n (drop s cells) h)
+
+  -- all rows but the last
+  rows_in-fewer : (n : ℕ) (cells : List X) → take n (rows_in w s (suc n) cells) ≡ rows_in w s n cells
+  rows_in-fewer zero cells = refl
+  rows_in-fewer (suc n) cells = ap (λ (r : List (List X)). take w cells ∷ r) (rows_in-fewer n (drop s cells))
+
 -- a row is within the cells
 pub row-inside : (w s n i k : ℕ) → i < n → w ≤ s → k ≡ n * s → i * s + w ≤ k
 row-inside w s n i k h l e =
@@ -86,6 +100,13 @@ module _ (w n : ℕ) (cells : List (Option ℕ)) (v : RowList) (is : record { wi
   row-shown i h =
       let n' = count-shown in
       ap (λ (r : RowList). slice_get r.rows i) (sym is) ∙ get-rows_in w (stride w) n i cells (omega arith)
+
+  -- the row that begins at a cell
+  pub row-from : (k i a : ℕ) → v.width ≡ k → i < length v.rows → a ≡ i * stride w → get_or v.rows i [] ≡ take k (drop a cells)
+  row-from k i a e h at =
+      let n' = width-shown ∙ e in
+      get_or_from_slice_get v.rows i (take w (drop (i * stride w) cells)) [] (row-shown i h)
+      ∙ (λ j. take (n' j) (drop (sym at j) cells))
 
   pub cell-shown : (i j : ℕ) → i < length v.rows → j < v.width
       → get_or cells (i * stride w + j) None ≡ get_or (get_or v.rows i []) j None
@@ -128,3 +149,16 @@ module _ (w n : ℕ) (cells : List (Option ℕ)) (v : RowList) (is : record { wi
       ∙ rows_in-append w (stride w) n m cells others l k
       ∙ ap (λ (x : ℕ). rows_in w (stride w) n cells ++ rows_in x (stride x) m others) (sym e)
       ∙ (λ i. (is i).rows ++ (its i).rows)
+
+  -- removing the last row
+  pub rows-popped : (a : ℕ) (all : List (Option ℕ)) → 0 < length v.rows → a ≡ (n - 1) * stride w → all ≡ take a cells
+      → rows_in w (stride w) (n - 1) all ≡ take (length v.rows - 1) v.rows
+  rows-popped a all some at kept =
+      let n' = count-shown in
+      let l : w ≤ stride w = omega arith in
+      let one : suc (n - 1) ≡ n = omega arith in
+      ap (rows_in w (stride w) (n - 1)) (kept ∙ ap (λ k. take k cells) at)
+      ∙ rows_in-take w (stride w) (n - 1) cells l
+      ∙ sym (rows_in-fewer w (stride w) (n - 1) cells)
+      ∙ ap (λ k. take (n - 1) (rows_in w (stride w) k cells)) one
+      ∙ (λ i. take (n' i - 1) (is i).rows)

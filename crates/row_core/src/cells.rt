@@ -6,7 +6,7 @@ ghost use Rattle.row_core.specs.Cells.{cell_of, cells_of, has_code, is_small};
 use std::alloc::{AllocError, Global};
 
 /// The code of an unbound cell. A smaller number is its own code.
-const UNBOUND: u32 = u32::MAX;
+pub(crate) const UNBOUND: u32 = u32::MAX;
 
 /// A list of cells. A cell is a number, or None if it is unbound.
 #[derive(Drop)]
@@ -205,6 +205,44 @@ impl Cells {
         match others {
             Cells::Narrow(codes) => self.extend_by_codes(codes),
             Cells::Wide(cells) => self.extend(cells),
+        }
+    }
+    /// Appends `width` cells of another list, from a place on.
+    ///
+    /// # Errors
+    /// `AllocError` if an allocation fails. The cells are unchanged.
+    pub(crate) fn append_part(
+        &mut self,
+        others: &Cells,
+        start: usize,
+        width: usize,
+    ) -> Result<(), AllocError>
+        requires inside { start + width ≤ length (cells_of others.now) }
+        ensures added { OnOk result (cells_of self.new
+            ≡ cells_of self.old ++ take width (drop start (cells_of others.now))) }
+        ensures unchanged { OnErr result (cells_of self.new ≡ cells_of self.old) }
+    {
+        match others {
+            Cells::Narrow(codes) => self.extend_by_codes(&codes[start..start + width]),
+            Cells::Wide(cells) => self.extend(&cells[start..start + width]),
+        }
+    }
+
+    /// Keeps the first cells. Allocates nothing.
+    pub(crate) fn truncate(&mut self, len: usize)
+        ensures kept { cells_of self.new ≡ take len (cells_of self.old) }
+    {
+        match self {
+            Cells::Narrow(codes) => codes.truncate(len),
+            Cells::Wide(cells) => cells.truncate(len),
+        }
+    }
+
+    /// Returns the allocator.
+    pub(crate) fn allocator(&self) -> Global {
+        match self {
+            Cells::Narrow(codes) => *codes.allocator(),
+            Cells::Wide(cells) => *cells.allocator(),
         }
     }
 }

@@ -1,7 +1,6 @@
-//! Operations on two rows: compatibility, shared variables, and the merge.
+//! Operations on two rows: compatibility and the merge.
 ghost use Rattle.std.specs.Prelude.{◌≡◌, nat_eq, length, OnOk, OnErr, ◌++◌, ◌∷◌, []};
 ghost use Rattle.algebra_model.specs.Solution.{agree, bound_or, is_compatible, merge};
-ghost use Rattle.algebra_model.specs.Operators.{share};
 
 use crate::rows::Rows;
 use std::alloc::{AllocError, Global};
@@ -41,22 +40,6 @@ pub fn is_compatible(a: &[Option<u64>], b: &[Option<u64>]) -> bool
         }
     }
     true
-}
-
-/// Returns whether some variable is bound in both rows.
-///
-/// # Requires
-/// Both rows have the same width.
-pub fn shares(a: &[Option<u64>], b: &[Option<u64>]) -> bool
-    requires same_width { length a.now ≡ length b.now }
-    ensures value { result ≡ share a.now b.now }
-{
-    for i in 0..a.len() {
-        if a[i].is_some() && b[i].is_some() {
-            return true;
-        }
-    }
-    false
 }
 
 /// Replaces the contents of `row` with the merge of two rows (their union, SPARQL 1.1 Query

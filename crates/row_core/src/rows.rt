@@ -2,11 +2,13 @@
 ghost use Rattle.row_core.specs.Cells.{cells_of};
 ghost use Rattle.row_core.specs.RowList.{stride, padded, rows_in};
 ghost use Rattle.algebra_model.specs.Operators.{restrict};
-ghost use Rattle.std.specs.Prelude.{◌≡◌, ◌+◌, ◌*◌, ◌<◌, ◌≤◌, take, drop, [], ◌∷◌, ◌++◌, length, false, map, Some, None, slice_get, get_or, All, OnOk, OnErr};
+ghost use Rattle.std.specs.Prelude.{◌≡◌, ◌+◌, ◌-◌, ◌*◌, ◌<◌, ◌≤◌, take, drop, [], ◌∷◌, ◌++◌, length, false, map, Some, None, slice_get, get_or, All, OnOk, OnErr};
 
 use crate::cells::Cells;
 use std::alloc::{AllocError, Global};
 use std::marker::Model;
+
+mod copies;
 
 /// A list of rows with one cell for each variable. A cell is the number of the variable's term, or
 /// None if the row leaves the variable unbound.
@@ -164,6 +166,21 @@ impl Rows {
         let _long = self.cells.len();
         self.count += 1;
         Ok(())
+    }
+
+    /// Removes the last row. Allocates nothing.
+    ///
+    /// # Requires
+    /// There is a row.
+    pub fn pop(&mut self)
+        requires some { 0 < length self.old.rows }
+        ensures popped { self.new.rows ≡ take (length self.old.rows - 1) self.old.rows }
+        ensures width { self.new.width ≡ self.old.width }
+    {
+        let last = self.count - 1;
+        let start = start_of(&self.cells, self.width, self.count, last);
+        self.cells.truncate(start);
+        self.count = last;
     }
 
     /// Returns the number that a row binds a variable to, or None.

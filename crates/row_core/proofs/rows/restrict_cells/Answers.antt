@@ -1,6 +1,6 @@
-use Rattle.std.proofs.Common.{◌≡◌, ℕ, ◌+◌, ◌*◌, ◌≤◌, ◌∙◌, List, Option, ap, refl, sym, arith, false, get_or, length, drop, take}
+use Rattle.std.proofs.Common.{◌≡◌, ℕ, ◌+◌, ◌*◌, ◌≤◌, ◌∙◌, ap, refl, sym, arith, false, get_or, length, drop, take}
 use Rattle.algebra_model.specs.Operators.{restrict}
-use borrow.Rule.Slice.PartMut.{put_mid, same_len_mid}
+use borrow.Rule.Slice.PartMut.{same_len_mid}
 use Rattle.row_core.specs.Cells.{cells_of}
 use Rattle.row_core.specs.RowList.{rows_in, stride}
 use Rattle.row_core.proofs.RowSteps.{row-inside}

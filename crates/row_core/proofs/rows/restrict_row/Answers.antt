@@ -1,6 +1,5 @@
-use Rattle.std.proofs.Common.{◌≡◌, ◌+◌, ◌<◌, ℕ, List, Option, false, get_or, length, take, drop, ◌∙◌, ap, sym, arith, set, None}
+use Rattle.std.proofs.Common.{◌≡◌, ◌+◌, ℕ, List, Option, false, get_or, length, take, drop, ◌∙◌, ap, sym, arith, set, None}
 use Rattle.std.proofs.lemmas.Grind.{common_steps}
-use Rattle.std.proofs.lemmas.List.{length-take, length-drop}
 use borrow.Rule.Slice.PartMut.{put_mid, put_same, same_len_mid}
 use Rattle.row_core.specs.Cells.{cells_of}
 use Rattle.row_core.proofs.RestrictSteps.{length-part, length-partly, set-part, restrict-keep, restrict-unbind, restrict-whole}

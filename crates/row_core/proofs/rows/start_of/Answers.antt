@@ -1,4 +1,4 @@
-use Rattle.std.proofs.Common.{◌≡◌, ◌*◌, ap, arith}
+use Rattle.std.proofs.Common.{◌*◌, ap, arith}
 use Rattle.row_core.specs.RowList.{stride}
 use Rattle.row_core.specs.Cells.{cells_of}
 use Rattle.row_core.proofs.RowSteps.{row-inside}

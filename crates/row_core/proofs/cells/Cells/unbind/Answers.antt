@@ -1,4 +1,4 @@
-use Rattle.std.proofs.Common.{◌≡◌, ◌∙◌, sym, ap, set, None}
+use Rattle.std.proofs.Common.{◌∙◌, sym, ap, set, None}
 use Rattle.row_core.specs.Cells.{cells_of}
 use Rattle.row_core.specs.declared.cells.Cells.{Cells}
 use Rattle.row_core.proofs.CellSteps.{code-unbound}

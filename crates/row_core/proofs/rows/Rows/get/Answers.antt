@@ -1,5 +1,4 @@
-use Rattle.std.proofs.Common.{◌≡◌, ◌+◌, ◌*◌, ℕ, None, get_or, sym, ap, ◌∙◌, arith}
-use Rattle.row_core.specs.RowList.{stride}
+use Rattle.std.proofs.Common.{◌+◌, ℕ, None, get_or, ap, ◌∙◌, arith}
 use Rattle.row_core.specs.Cells.{cells_of}
 use Rattle.row_core.proofs.RowSteps.{count-shown, cell-shown, width-shown}
 use Rattle.row_core.proofs.rows.Rows.get.Goals as goal

@@ -1,6 +1,5 @@
-use Rattle.std.proofs.Common.{◌≡◌, ◌*◌, ◌+◌, ◌≤◌, ℕ, List, Option, Some, length, take, drop, sym, ap, ◌∙◌, arith, subst}
+use Rattle.std.proofs.Common.{ℕ, Some, length, take, drop, sym, ap, ◌∙◌, arith}
 use Rattle.std.proofs.lemmas.List.{length-take, length-drop}
-use Rattle.row_core.specs.RowList.{stride}
 use Rattle.row_core.specs.Cells.{cells_of}
 use Rattle.row_core.proofs.RowSteps.{count-shown, row-shown, width-shown}
 use Rattle.row_core.proofs.rows.Rows.read.Goals as goal
