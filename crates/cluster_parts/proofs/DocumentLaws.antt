@@ -108,7 +108,7 @@ terms_of_lines (q ∷ qs) h =
 
 -- ---- blocks
 
-statements-append : (xs ys : List (List ℕ)) (qs rs : List QuadParts) → HaveStatements xs qs → HaveStatements ys rs → HaveStatements (xs ++ ys) (qs ++ rs)
+pub statements-append : (xs ys : List (List ℕ)) (qs rs : List QuadParts) → HaveStatements xs qs → HaveStatements ys rs → HaveStatements (xs ++ ys) (qs ++ rs)
 statements-append [] ys qs rs h k = rw h k
 statements-append (x ∷ xs) ys qs rs h k =
     (h.0, h.1 ++ rs, h.2, rw h.3 (append_assoc (option_to_list h.0) h.1 rs), statements-append xs ys h.1 rs h.4 k)

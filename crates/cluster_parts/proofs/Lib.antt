@@ -12,3 +12,4 @@ pub mod NumberListSteps
 pub mod NumberListLaws
 pub mod SealLaws
 pub mod RemainderLaws
+pub mod HashedLaws

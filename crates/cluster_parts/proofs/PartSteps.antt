@@ -163,13 +163,7 @@ quad_hashes quads texts numbered terms hashes h are made =
     made ∙ ap (λ l. map (hash_by_numbers l) numbered) (hashed_terms h.terms texts terms h.forms are)
     ∙ hashes_are h.terms numbered h.numbered.1 ∙ ap (map quad_hash) h.numbered.2
 
--- the distinct quads of numbers are below, too
-pub distinct_below : (quads : List QuadParts) (texts : List (List ℕ)) (numbered index : List NumQuad) (n : ℕ) → AreNumberedBy quads texts numbered → n ≡ length texts
-    → IsPermutation (without_repeats quad_eq numbered) index → AreBelow n index
-distinct_below quads texts numbered index n h long once =
-    subst (λ m. AreBelow m index) (sym (long ∙ length_forms h.terms texts h.forms)) (index_reads quads h.terms numbered index h.numbered once).1
-
--- their hashes are those of the distinct quads
+-- the hashes of the distinct quads of numbers are those of the distinct quads
 pub distinct_hashes : (quads : List QuadParts) (texts : List (List ℕ)) (numbered index : List NumQuad) (terms hashes : List ℕ) → AreNumberedBy quads texts numbered → terms ≡ map hash texts
     → IsPermutation (without_repeats quad_eq numbered) index → hashes ≡ map (hash_by_numbers terms) index → AreHashesOf quads hashes
 distinct_hashes quads texts numbered index terms hashes h are once made =

@@ -1,7 +1,10 @@
 //! Hashes without a key.
-ghost use Rattle.std.specs.Prelude.{◌≡◌, ◌∷◌, [], map, IfOk};
+ghost use Rattle.std.specs.Prelude.{◌≡◌, ◌∷◌, [], length, map, IfOk};
+ghost use Rattle.dict_core.specs.NumQuad.{IsBelow};
 ghost use Rattle.cluster_parts.specs.Hash.{hash, hash_numbers};
+ghost use Rattle.cluster_parts.specs.Numbered.{hash_by_numbers};
 
+use dict_core::NumQuad;
 use std::alloc::{AllocError, Global};
 use std::hash::{FoldHasher, Hasher};
 use text_dict::TextDict;
@@ -19,7 +22,7 @@ pub fn hash_of(text: &[u8]) -> u64
 const QUAD_HASHES: u64 = 1 << 60;
 
 /// Returns the hash of a quad, from those of its terms.
-pub(crate) fn hash_of_four(s: u64, p: u64, o: u64, g: u64) -> u64
+fn hash_of_four(s: u64, p: u64, o: u64, g: u64) -> u64
     ensures value { result ≡ hash_numbers (s ∷ p ∷ o ∷ g ∷ []) }
 {
     let mut hasher = FoldHasher::default();
@@ -28,6 +31,23 @@ pub(crate) fn hash_of_four(s: u64, p: u64, o: u64, g: u64) -> u64
     hasher.write_u64(o);
     hasher.write_u64(g);
     hasher.finish() % QUAD_HASHES
+}
+
+/// Returns the hash of a quad of numbers. `terms` are the hashes of the terms.
+pub(crate) fn hash_of_quad(terms: &[u64], quad: &NumQuad) -> u64
+    requires below { IsBelow (length terms.now) quad.now }
+    ensures value { result ≡ hash_by_numbers terms.now quad.now }
+{
+    let graph = match quad.g {
+        Some(g) => terms[g as usize],
+        None => 0,
+    };
+    hash_of_four(
+        terms[quad.s as usize],
+        terms[quad.p as usize],
+        terms[quad.o as usize],
+        graph,
+    )
 }
 
 /// Returns the hash of each text of a dictionary, by number.

@@ -17,6 +17,7 @@
 mod again;
 mod counting;
 mod graph_names;
+mod hashed_places;
 mod hashing;
 mod keeping;
 mod key_splits;

@@ -1,21 +1,28 @@
-//! The lines of a block, read and numbered.
-ghost use Rattle.std.specs.Prelude.{◌≡◌, ◌<◌, [], ℕ, List, length, IfErr, IfOk};
+//! The lines of a block, read piece by piece and numbered.
+ghost use Rattle.std.specs.Prelude.{◌≡◌, ◌+◌, ◌<◌, ◌++◌, ◌^◌, ℕ, List, length, IfErr, IfOk, OnOk};
 ghost use Rattle.rdf_core.specs.QuadParts.{QuadParts};
 ghost use Rattle.nquads_core.specs.Lines.{lines};
 ghost use Rattle.nquads_core.specs.Pieces.{HaveStatements, IsFirstMalformed};
 ghost use Rattle.nquads_core.specs.declared.fault.PieceFault.TheVariants.{BadLine};
+ghost use Rattle.piece_cuts.specs.Cuts.{AreCuts};
 ghost use Rattle.text_pieces.specs.Forms.{AreNumberedBy};
 ghost use Rattle.text_dict.specs.Forms.{IsForm};
-ghost use Rattle.text_pieces.specs.Pieces.{IsPieceOf};
-ghost use Rattle.cluster_parts.specs.Numbered.{AreQuadsOf, text_at};
+ghost use Rattle.text_pieces.specs.Pieces.{AreGrown, IsPieceOf};
+ghost use Rattle.cluster_parts.specs.Numbered.{AreQuadsOf, AreRead, text_at};
 
 use dict_core::NumQuad;
 use nquads_core::PieceFault;
+use piece_cuts::Cuts;
+use piece_cuts::laws::pieces_are_the_document;
 use quad_filter::QuadFilter;
 use std::alloc::{AllocError, Global};
 use std::hash::RandomState;
 use text_dict::TextDict;
 use text_pieces::{TextPiece, add_piece, read_lines};
+
+/// The least number of bytes of a piece, except of the last one. The text of a piece, and what is read of it, stay in the cache
+/// of the processor.
+const BYTES_A_PIECE: usize = 1 << 18;
 
 /// The numbered quads of the lines of a block, and the number of its lines.
 #[derive(Drop)]
@@ -28,6 +35,22 @@ pub(crate) struct NumberedLines {
     pub(crate) lines: u64,
 }
 
+impl NumberedLines {
+    ghost use Rattle.std.specs.Prelude.{[]};
+    ghost use Rattle.cluster_parts.specs.Numbered.{AreRead};
+
+    /// Creates the state in which no line is read. Allocates nothing.
+    fn new(alloc: Global, state: RandomState) -> NumberedLines
+        ensures none { AreRead result [] }
+    {
+        NumberedLines {
+            texts: TextDict::new(alloc, state),
+            quads: Vec::new(alloc),
+            lines: 0,
+        }
+    }
+}
+
 /// Returns the text with this number.
 pub(crate) fn text_of(texts: &TextDict, number: u64) -> &[u8]
     requires known { number < length texts.now.texts }
@@ -37,23 +60,84 @@ pub(crate) fn text_of(texts: &TextDict, number: u64) -> &[u8]
     texts.text(number)
 }
 
-/// Returns the texts and the quads of a piece that was read against a dictionary without a text.
-fn numbered_piece(
+/// Adds the quads and the lines of a piece to those that were read before.
+fn add_read(alloc: Global, so_far: &mut NumberedLines, piece: TextPiece) -> Result<(), AllocError>
+    requires room { so_far.old.lines + piece.lines < 2 ^ 64 }
+    ensures numbered { OnOk result ((earlier : List (List ℕ)) (done quads : List QuadParts)
+        → AreGrown earlier so_far.old.texts.texts → IsPieceOf earlier quads piece
+        → AreNumberedBy done so_far.old.texts.texts so_far.old.quads.items
+        → AreNumberedBy (done ++ quads) so_far.new.texts.texts so_far.new.quads.items) }
+    ensures count { OnOk result (so_far.new.lines ≡ so_far.old.lines + piece.lines) }
+{
+    let lines = piece.lines;
+    add_piece(alloc, &mut so_far.texts, &mut so_far.quads, piece)?;
+    so_far.lines += lines;
+    Ok(())
+}
+
+/// Returns the fault of a piece that follows this many lines, with the number of the line among all of them.
+fn fault_after(lines: u64, fault: PieceFault) -> PieceFault
+    requires room { (k : ℕ) → fault ≡ BadLine k → lines + k < 2 ^ 64 }
+    ensures line { (k : ℕ) → result ≡ BadLine k → (j : ℕ) × (fault ≡ BadLine j) × (k ≡ lines + j) }
+{
+    match fault {
+        PieceFault::BadLine(line) => PieceFault::BadLine(lines + line),
+        PieceFault::Memory => PieceFault::Memory,
+    }
+}
+
+/// Reads the lines of a piece, after those that were read before.
+fn add_lines(
     alloc: Global,
     state: RandomState,
-    piece: TextPiece,
-) -> Result<(TextDict, Vec<NumQuad>), AllocError>
-    ensures quads { IfOk result (λ made. (quads : List QuadParts) → IsPieceOf [] quads piece
-        → AreNumberedBy quads made.0.texts made.1.items) }
+    so_far: &mut NumberedLines,
+    piece: &[u8],
+) -> Result<(), PieceFault>
+    requires room { so_far.old.lines + length piece.now < 2 ^ 64 }
+    ensures read { OnOk result ((before : List (List ℕ)) → AreRead so_far.old before
+        → AreRead so_far.new (before ++ lines piece.now)) }
+    ensures bad_line { IfErr result (λ fault. (k : ℕ) → fault ≡ BadLine k
+        → (before : List (List ℕ)) → AreRead so_far.old before → IsFirstMalformed (before ++ lines piece.now) k) }
 {
-    let mut texts = TextDict::new(alloc, state);
-    let mut quads = Vec::new(alloc);
-    add_piece(alloc, &mut texts, &mut quads, piece)?;
-    Ok((texts, quads))
+    let read = match read_lines(alloc, state, &so_far.texts, &QuadFilter::All, piece) {
+        Ok(read) => read,
+        Err(fault) => return Err(fault_after(so_far.lines, fault)),
+    };
+    match add_read(alloc, so_far, read) {
+        Ok(()) => Ok(()),
+        Err(_) => Err(PieceFault::Memory),
+    }
+}
+
+/// Reads the pieces of a block, one after the other.
+fn number_pieces(
+    alloc: Global,
+    state: RandomState,
+    bytes: &[u8],
+    cuts: &Cuts,
+) -> Result<NumberedLines, PieceFault>
+    requires fits { AreCuts bytes.now cuts.now }
+    ensures quads { IfOk result (λ block. (quads : List QuadParts) × HaveStatements (lines bytes.now) quads
+        × AreQuadsOf quads block) }
+    ensures count { IfOk result (λ block. block.lines ≡ length (lines bytes.now)) }
+    ensures bad_line { IfErr result
+        (λ fault. (k : ℕ) → fault ≡ BadLine k → IsFirstMalformed (lines bytes.now) k) }
+{
+    pieces_are_the_document();
+    let mut so_far = NumberedLines::new(alloc, state);
+    for i in 0..cuts.pieces() {
+        match add_lines(alloc, state, &mut so_far, cuts.piece(bytes, i)) {
+            Ok(()) => {}
+            Err(fault) => return Err(fault),
+        }
+    }
+    Ok(so_far)
 }
 
 /// Reads a block of whole lines (RDF 1.1 N-Quads, grammar). Numbers its quads by the N-Quads forms of their terms, and
 /// counts its lines.
+///
+/// It reads the block in pieces. The result does not depend on where they end.
 ///
 /// # Errors
 /// - `BadLine(k)` if line k of the block, counted from 0, is the first that is malformed.
@@ -69,20 +153,8 @@ pub(crate) fn number_lines(
     ensures bad_line { IfErr result
         (λ fault. (k : ℕ) → fault ≡ BadLine k → IsFirstMalformed (lines bytes.now) k) }
 {
-    let piece = read_lines(
-        alloc,
-        state,
-        &TextDict::new(alloc, state),
-        &QuadFilter::All,
-        bytes,
-    )?;
-    let lines = piece.lines;
-    match numbered_piece(alloc, state, piece) {
-        Ok((texts, quads)) => Ok(NumberedLines {
-            texts,
-            quads,
-            lines,
-        }),
+    match Cuts::every(alloc, bytes, BYTES_A_PIECE) {
+        Ok(cuts) => number_pieces(alloc, state, bytes, &cuts),
         Err(_) => Err(PieceFault::Memory),
     }
 }

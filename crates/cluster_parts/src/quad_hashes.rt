@@ -1,34 +1,20 @@
 //! The hashes of the quads of a block, from those of its terms.
-ghost use Rattle.std.specs.Prelude.{◌≡◌, List, length, map, IfOk, IsSorted};
+ghost use Rattle.std.specs.Prelude.{◌≡◌, List, length, map, IfOk, IsPermutation, IsSorted};
 ghost use Rattle.std.specs.Ordering.{nat_cmp};
 ghost use Rattle.rdf_core.specs.QuadParts.{QuadParts};
-ghost use Rattle.dict_core.specs.NumQuad.{AreBelow, IsBelow};
+ghost use Rattle.algebra_model.specs.Bag.{without_repeats};
+ghost use Rattle.dict_core.specs.Equality.{quad_eq};
+ghost use Rattle.dict_core.specs.NumQuad.{AreBelow};
 ghost use Rattle.cluster_parts.specs.Hash.{hash, quad_hash};
 ghost use Rattle.cluster_parts.specs.Numbered.{AreQuadsOf, hash_by_numbers};
 ghost use Rattle.cluster_parts.specs.Output.{AreHashesOf};
 
-use crate::hashing::hash_of_four;
+use crate::hashed_places::hashes_once;
+use crate::hashing::hash_of_quad;
 use crate::numbering::NumberedLines;
 use dict_core::NumQuad;
 use quad_index::{Quads, SortOrder, sorted_list};
 use std::alloc::{AllocError, Global};
-
-/// Returns the hash of a quad of numbers.
-fn hash_of_quad(terms: &[u64], quad: &NumQuad) -> u64
-    requires below { IsBelow (length terms.now) quad.now }
-    ensures value { result ≡ hash_by_numbers terms.now quad.now }
-{
-    let graph = match quad.g {
-        Some(g) => terms[g as usize],
-        None => 0,
-    };
-    hash_of_four(
-        terms[quad.s as usize],
-        terms[quad.p as usize],
-        terms[quad.o as usize],
-        graph,
-    )
-}
 
 /// Returns the hashes of quads of numbers.
 fn hashes_of_quads(alloc: Global, terms: &[u64], quads: &[NumQuad]) -> Result<Vec<u64>, AllocError>
@@ -71,6 +57,39 @@ fn hashes_of_list(alloc: Global, terms: &[u64], quads: &Quads<'_>) -> Result<Vec
     Ok(hashes)
 }
 
+/// Returns the hashes of the distinct quads in ascending order, by a sort of the quads and one of the hashes. `terms` are the
+/// hashes of the terms.
+fn hashes_of_sorted(alloc: Global, terms: &[u64], quads: &[NumQuad]) -> Result<Vec<u64>, AllocError>
+    requires below { AreBelow (length terms.now) quads.now }
+    ensures once { IfOk result (λ hashes.
+        IsPermutation (map (hash_by_numbers terms.now) (without_repeats quad_eq quads.now)) hashes.items) }
+    ensures ascending { IfOk result (λ hashes. IsSorted nat_cmp hashes.items) }
+{
+    let list = sorted_list(alloc, quads, SortOrder::Gspo)?;
+    let mut hashes = hashes_of_list(alloc, terms, &list.quads())?;
+    hashes.sort_unstable();
+    Ok(hashes)
+}
+
+/// Returns the hashes of the distinct quads in ascending order. `terms` are the hashes of the terms.
+///
+/// The quads themselves are sorted only if different ones have the same hash.
+fn hashes_of_distinct(
+    alloc: Global,
+    terms: &[u64],
+    quads: &[NumQuad],
+) -> Result<Vec<u64>, AllocError>
+    requires below { AreBelow (length terms.now) quads.now }
+    ensures once { IfOk result (λ hashes.
+        IsPermutation (map (hash_by_numbers terms.now) (without_repeats quad_eq quads.now)) hashes.items) }
+    ensures ascending { IfOk result (λ hashes. IsSorted nat_cmp hashes.items) }
+{
+    match hashes_once(alloc, terms, quads)? {
+        Some(hashes) => Ok(hashes),
+        None => hashes_of_sorted(alloc, terms, quads),
+    }
+}
+
 /// Returns the hashes of the distinct quads of a block in ascending order. `terms` are the hashes of its terms.
 pub(crate) fn distinct_hashes_of(
     alloc: Global,
@@ -83,8 +102,6 @@ pub(crate) fn distinct_hashes_of(
         (λ hashes. (quads : List QuadParts) → AreQuadsOf quads block.now → AreHashesOf quads hashes.items) }
     ensures ascending { IfOk result (λ hashes. IsSorted nat_cmp hashes.items) }
 {
-    let list = sorted_list(alloc, block.quads.as_slice(), SortOrder::Gspo)?;
-    let mut hashes = hashes_of_list(alloc, terms, &list.quads())?;
-    hashes.sort_unstable();
+    let hashes = hashes_of_distinct(alloc, terms, block.quads.as_slice())?;
     Ok(hashes)
 }

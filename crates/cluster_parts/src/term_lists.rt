@@ -1,11 +1,13 @@
 //! Texts, each on a line of its own, by partition.
-ghost use Rattle.std.specs.Prelude.{◌≡◌, ◌<◌, ◌++◌, [], if◌then◌else◌, map, codes, IfOk, OnOk};
+ghost use Rattle.std.specs.Prelude.{◌≡◌, ◌<◌, ◌++◌, [], if◌then◌else◌, length, map, codes, IfOk, OnOk};
 ghost use Rattle.cluster_parts.specs.Hash.{hash};
 ghost use Rattle.cluster_parts.specs.Keys.{remainders};
 ghost use Rattle.cluster_parts.specs.Parts.{is_in};
 ghost use Rattle.cluster_parts.specs.Terms.{line_list, lines_in};
 ghost use Rattle.cluster_parts.specs.Known.{lines_part};
+ghost use Rattle.cluster_parts.specs.Numbered.{text_at};
 
+use crate::numbering::text_of;
 use crate::partitions::is_in;
 use crate::sealing::push_sealed;
 use std::alloc::{AllocError, Global};
@@ -30,20 +32,22 @@ pub(crate) fn all_lines(alloc: Global, texts: &TextDict) -> Result<Vec<u8>, Allo
     Ok(list)
 }
 
-/// Appends a text on a line of its own, if the partition has its hash.
+/// Appends the text with this number on a line of its own, if the partition has its hash. Other texts are not looked up.
 fn push_if_in(
     out: &mut Vec<u8>,
-    text: &[u8],
+    texts: &TextDict,
+    n: u64,
     hash: u64,
     partitions: u64,
     number: u64,
 ) -> Result<(), AllocError>
+    requires known { n < length texts.now.texts }
     requires some { 0 < partitions }
-    ensures appended { OnOk result (out.new.items
-        ≡ out.old.items ++ (if is_in partitions number hash then text.now ++ codes "\n" else [])) }
+    ensures appended { OnOk result (out.new.items ≡ out.old.items
+        ++ (if is_in partitions number hash then text_at texts.now.texts n ++ codes "\n" else [])) }
 {
     if is_in(partitions, number, hash) {
-        push_line(out, text)?;
+        push_line(out, text_of(texts, n))?;
     }
     Ok(())
 }
@@ -63,13 +67,8 @@ fn lines_of_part(
 {
     let mut list = Vec::new(alloc);
     for n in 0..texts.len() as u64 {
-        push_if_in(
-            &mut list,
-            texts.text(n),
-            parts[n as usize],
-            partitions,
-            number,
-        )?;
+        let part = parts[n as usize];
+        push_if_in(&mut list, texts, n, part, partitions, number)?;
     }
     Ok(list)
 }

@@ -1,0 +1,6 @@
+use Rattle.std.proofs.Common.{refl}
+use Rattle.cluster_parts.proofs.NumberingSteps.{nothing_is_read}
+use Rattle.cluster_parts.proofs.numbering.NumberedLines.new.Goals as goal
+
+pub returns : goal.returns
+returns c = record { none = nothing_is_read _ c.new.ensures.empty c.new-2.ensures.items refl }
