@@ -1,5 +1,5 @@
 -- Distinct, with one more row, and rows as keys of numbers.
-use Rattle.std.proofs.Common.{◌≡◌, ℕ, zero, suc, ◌+◌, ◌*◌, ◌<◌, ◌≤◌, Bool, true, false, cond, not, ◌&&◌, ◌||◌, List, [], ◌∷◌, ◌++◌, filter, flat_map, map, nat_eq, Decides, Option, None, Some, refl, sym, ap, ◌∙◌, append-nil, if◌then◌else◌, length, get_or, take, slice_get, arith, add-one, ⊎_elim}
+use Rattle.std.proofs.Common.{◌≡◌, ℕ, suc, ◌+◌, ◌*◌, ◌<◌, Bool, true, false, cond, not, ◌&&◌, ◌||◌, List, [], ◌∷◌, ◌++◌, filter, map, nat_eq, Decides, Option, None, Some, refl, sym, ap, ◌∙◌, append-nil, if◌then◌else◌, length, get_or, take, slice_get, arith, ⊎_elim}
 use Rattle.std.specs.Cmp.{both_ways}
 use Rattle.std.specs.List.{list_any, position_or_len}
 use Rattle.std.proofs.lemmas.Bool.{cases_Bool}

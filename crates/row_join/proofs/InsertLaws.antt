@@ -1,18 +1,18 @@
 -- What another key makes of the fields of a table of keys.
 use Rattle.std.proofs.Common.{◌≡◌, ℕ, ◌+◌, ◌*◌, ◌<◌, ◌≤◌, List, [], ◌∷◌, ◌++◌, length, get_or, set, max, sym, ap, subst, ◌∙◌, arith}
 use Rattle.std.proofs.lemmas.List.{get_or_read, length-append, length-set}
-use Rattle.row_join.specs.declared.hashing.Hashing.{Hashing}
+use Rattle.keyed_hash.specs.declared.HashState.{HashState}
 use Rattle.row_core.specs.RowList.{rows_in}
 use Rattle.row_core.proofs.RowSteps.{length-rows_in}
 use Rattle.row_join.specs.KeyTable.{IsKeyTable, KeyList, bucket_of, place_of, with_key}
 use Rattle.row_join.proofs.GroupLaws.{with_key-new}
 use Rattle.row_join.proofs.KeyTableLaws.{keys-more, long-more, table-more}
 
-module _ (hashing : Hashing) (w : ℕ) (numbers buckets earlier key numbers' earlier' : List ℕ) (v : KeyList) (b at link size : ℕ)
+module _ (state : HashState) (w : ℕ) (numbers buckets earlier key numbers' earlier' : List ℕ) (v : KeyList) (b at link size : ℕ)
     (is : record { width = w; keys = rows_in w w (length earlier) numbers } ≡ v)
-    (long : length numbers ≡ length earlier * w) (table : IsKeyTable (bucket_of hashing (length buckets)) (rows_in w w (length earlier) numbers) buckets earlier)
+    (long : length numbers ≡ length earlier * w) (table : IsKeyTable (bucket_of state (length buckets)) (rows_in w w (length earlier) numbers) buckets earlier)
     (wide : length key ≡ v.width) (absent : length v.keys ≡ place_of key v.keys) (at_is : at ≡ length earlier) (size_is : size ≡ length buckets)
-    (b_is : b ≡ bucket_of hashing size key) (low : b < size) (link_is : link ≡ get_or buckets b link)
+    (b_is : b ≡ bucket_of state size key) (low : b < size) (link_is : link ≡ get_or buckets b link)
     (n : numbers' ≡ numbers ++ key) (e : earlier' ≡ earlier ++ link ∷ []) where
   own_wide : length key ≡ w
   own_wide = wide ∙ sym (ap (λ (k : KeyList). k.width) is)
@@ -24,13 +24,13 @@ module _ (hashing : Hashing) (w : ℕ) (numbers buckets earlier key numbers' ear
   own_absent = sym count ∙ absent ∙ sym (ap (λ (k : KeyList). place_of key k.keys) is)
 
   pub inserted-table : (length numbers' ≡ length earlier' * w)
-      × IsKeyTable (bucket_of hashing (length (set buckets b (at + 1)))) (rows_in w w (length earlier') numbers') (set buckets b (at + 1)) earlier'
+      × IsKeyTable (bucket_of state (length (set buckets b (at + 1)))) (rows_in w w (length earlier') numbers') (set buckets b (at + 1)) earlier'
   inserted-table =
       let inside : b < length buckets = omega arith in (
         long-more w numbers earlier key numbers' earlier' long own_wide link n e,
-        subst (λ (k : ℕ). IsKeyTable (bucket_of hashing k) (rows_in w w (length earlier') numbers') (set buckets b (at + 1)) earlier') (sym (length-set buckets b (at + 1)))
-            (table-more w numbers earlier key numbers' earlier' long own_wide link n e (bucket_of hashing (length buckets)) buckets (set buckets b (at + 1)) b table
-            (b_is ∙ ap (λ (k : ℕ). bucket_of hashing k key) size_is) inside own_absent
+        subst (λ (k : ℕ). IsKeyTable (bucket_of state k) (rows_in w w (length earlier') numbers') (set buckets b (at + 1)) earlier') (sym (length-set buckets b (at + 1)))
+            (table-more w numbers earlier key numbers' earlier' long own_wide link n e (bucket_of state (length buckets)) buckets (set buckets b (at + 1)) b table
+            (b_is ∙ ap (λ (k : ℕ). bucket_of state k key) size_is) inside own_absent
             (get_or_read buckets b link inside link_is 0) (ap (λ (k : ℕ). set buckets b (k + 1)) at_is)),
       )
 

@@ -2,6 +2,8 @@ mod KeyTableLaws
 mod GroupLaws
 mod InsertLaws
 mod PlaceLaws
+mod ColumnLaws
+mod SlotLaws
 mod PairLaws
 pub mod NumberLaws
 mod TurnLaws

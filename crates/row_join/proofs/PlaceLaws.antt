@@ -1,12 +1,11 @@
 -- Places of rows, and the rows at them.
-use Rattle.std.proofs.Common.{◌≡◌, ℕ, zero, suc, ◌+◌, ◌<◌, Bool, true, false, not, cond, ◌&&◌, ◌||◌, List, [], ◌∷◌, ◌++◌, length, map, filter, get_or, slice_get, nat_eq, Option, Some, None, refl, sym, ap, subst, ◌∙◌, arith, is_some, All, append_assoc}
+use Rattle.std.proofs.Common.{◌≡◌, ℕ, zero, suc, ◌+◌, ◌<◌, Bool, true, false, not, cond, ◌&&◌, ◌||◌, List, [], ◌∷◌, ◌++◌, length, map, filter, get_or, nat_eq, Option, Some, None, refl, sym, ap, subst, ◌∙◌, arith, is_some, All, append_assoc}
 use Rattle.std.specs.List.{range_with_len}
 use Rattle.std.specs.Option.{option_eq}
 use Rattle.std.specs.Cmp.Lexicographic.{pointwise}
 use Rattle.std.proofs.lemmas.Bool.{false≢true, and_parts}
 use Rattle.std.proofs.lemmas.List.{map-append, append-nil, length-append, length-map}
 use Rattle.std.proofs.lemmas.List.Elements.{filter-append}
-use Rattle.std.proofs.lemmas.Option.{get_or_from_slice_get}
 use Rattle.algebra_model.specs.Bag.{IsSameBag}
 use Rattle.algebra_model.specs.Solution.{Solution}
 use Rattle.algebra_model.specs.RowOrder.{cells}
@@ -167,11 +166,11 @@ unkeyed_tried key μ e rows =
     all_pass (x ∷ xs) = λ j. cond (passes x j) (x ∷ all_pass xs j) (all_pass xs j)
 
 -- the iteration of one row: its place is added if it passes
-pub places-turn : (p : Solution ℕ → Bool) (rows : List (Solution ℕ)) (n : ℕ) (row : Solution ℕ) → slice_get rows n ≡ Some row → (b : Bool) → p row ≡ b
+pub places-turn : (p : Solution ℕ → Bool) (rows : List (Solution ℕ)) (n : ℕ) (b : Bool) → p (get_or rows n []) ≡ b
     → (was now : List ℕ) → was ≡ places_below n p rows → now ≡ was ++ place_if b n → now ≡ places_below (n + 1) p rows
-places-turn p rows n row at b e was now h k =
+places-turn p rows n b e was now h k =
     k ∙ ap (λ (l : List ℕ). l ++ place_if b n) h
-    ∙ ap (λ (c : Bool). places_below n p rows ++ place_if c n) (sym (ap p (get_or_from_slice_get rows n row [] at) ∙ e))
+    ∙ ap (λ (c : Bool). places_below n p rows ++ place_if c n) (sym e)
     ∙ sym (places_more p rows n)
 
 -- the numbers of a key are as many as its variables

@@ -1,13 +1,12 @@
 -- One iteration of each loop: one more right row, or one more left row.
-use Rattle.std.proofs.Common.{◌≡◌, ℕ, zero, suc, ◌+◌, ◌-◌, ◌<◌, ◌≤◌, Bool, true, false, not, cond, ◌&&◌, ◌||◌, List, [], ◌∷◌, ◌++◌, length, map, filter, flat_map, take, drop, get_or, slice_get, nat_eq, Some, if◌then◌else◌, refl, sym, ap, subst, ◌∙◌, arith, append_assoc}
+use Rattle.std.proofs.Common.{◌≡◌, ℕ, zero, suc, ◌+◌, ◌-◌, ◌<◌, ◌≤◌, Bool, true, false, not, cond, ◌&&◌, ◌||◌, List, [], ◌∷◌, ◌++◌, length, map, filter, flat_map, take, drop, get_or, nat_eq, if◌then◌else◌, refl, sym, ap, subst, ◌∙◌, arith, append_assoc}
 use Rattle.std.specs.List.{list_all}
 use Rattle.std.proofs.lemmas.Bool.{and_parts}
-use Rattle.std.proofs.lemmas.List.{append-nil, take-map, drop-map, get_or-drop, length-drop}
+use Rattle.std.proofs.lemmas.List.{append-nil, length-append, take-map, drop-map, get_or-drop, length-drop}
 use Rattle.std.proofs.lemmas.List.Elements.{filter-append}
 use Rattle.std.proofs.lemmas.List.Folds.{list_all-append, list_all-map, list_all_at, flat_map-map}
 use Rattle.std.proofs.lemmas.List.Sorted.{IsPermutation-refl, IsPermutation-append, IsPermutation-trans}
 use Rattle.std.proofs.lemmas.Grind.{flat_map-append}
-use Rattle.std.proofs.lemmas.Option.{get_or_from_slice_get}
 use Rattle.std.proofs.Math.Seq.{take-suc}
 use Rattle.algebra_model.specs.Bag.{IsSameBag}
 use Rattle.algebra_model.specs.Pieces.{joined}
@@ -20,10 +19,7 @@ use Rattle.row_join.specs.Places.{rows_at}
 use Rattle.row_join.proofs.PairLaws.{rows_at-more, merges-more}
 
 -- ν, the right row of this iteration, is at the place that is item i of the list of places
-module _ (rows : List (Solution ℕ)) (places : List ℕ) (i : ℕ) (μ ν : Solution ℕ) (low : i < length places) (at : slice_get rows (get_or places i 0) ≡ Some ν) where
-  is_row : get_or rows (get_or places i 0) [] ≡ ν
-  is_row = get_or_from_slice_get rows (get_or places i 0) ν [] at
-
+module _ (rows : List (Solution ℕ)) (places : List ℕ) (i : ℕ) (μ ν : Solution ℕ) (low : i < length places) (is_row : get_or rows (get_or places i 0) [] ≡ ν) where
   rows_more : rows_at rows (take (i + 1) places) ≡ rows_at rows (take i places) ++ ν ∷ []
   rows_more = rows_at-more rows places i low ∙ ap (λ (x : Solution ℕ). rows_at rows (take i places) ++ x ∷ []) is_row
 
@@ -87,28 +83,43 @@ module _ (rows : List (Solution ℕ)) (places : List ℕ) (i : ℕ) (μ ν : Sol
       step false k f = refl
 
 -- a row of rows whose numbers all pass
-pub row_passes : (p : ℕ → Bool) (rows : List (Solution ℕ)) (i : ℕ) (ν : Solution ℕ) → all_pass p rows ≡ true → slice_get rows i ≡ Some ν → passes p ν ≡ true
-row_passes p [] i ν h at = none i at
-  where
-    none : (i : ℕ) → slice_get [] i ≡ Some ν → passes p ν ≡ true
-    none i at = cc
-row_passes p (μ ∷ rows) zero ν h at =
-    let e : μ ≡ ν = cc in
-    ap (passes p) (sym e) ∙ (and_parts (passes p μ) (all_pass p rows) h).0
-row_passes p (μ ∷ rows) (suc i) ν h at = row_passes p rows i ν (and_parts (passes p μ) (all_pass p rows) h).1 at
+pub row_passes : (p : ℕ → Bool) (rows : List (Solution ℕ)) (i : ℕ) → all_pass p rows ≡ true → passes p (get_or rows i []) ≡ true
+row_passes p [] i h = refl
+row_passes p (μ ∷ rows) zero h = (and_parts (passes p μ) (all_pass p rows) h).0
+row_passes p (μ ∷ rows) (suc i) h = row_passes p rows i (and_parts (passes p μ) (all_pass p rows) h).1
+
+-- rows to which one row was added at the end
+module _ (μ : Solution ℕ) (old rows : List (Solution ℕ)) (added : rows ≡ old ++ μ ∷ []) where
+  last_place : length rows - 1 ≡ length old
+  last_place = let e : length rows ≡ length old + 1 = ap length added ∙ length-append old (μ ∷ []) in omega arith
+
+  pub last_added : get_or rows (length rows - 1) [] ≡ μ
+  last_added = (λ j. get_or (added j) (last_place j) []) ∙ at_end old
+    where
+      at_end : (old : List (Solution ℕ)) → get_or (old ++ μ ∷ []) (length old) [] ≡ μ
+      at_end [] = refl
+      at_end (ν ∷ old) = at_end old
+
+  pub without_last : take (length rows - 1) rows ≡ old
+  without_last = (λ j. take (last_place j) (added j)) ∙ before old
+    where
+      before : (old : List (Solution ℕ)) → take (length old) (old ++ μ ∷ []) ≡ old
+      before [] = refl
+      before (ν ∷ old) = ap (λ (l : List (Solution ℕ)). ν ∷ l) (before old)
 
 -- one more left row
 module _ (gives : Solution ℕ → List (Solution ℕ)) (left : List (Solution ℕ)) where
-  pub left-turn : (from i : ℕ) (μ : Solution ℕ) (made made' : List (Solution ℕ)) → from ≤ i → i < length left → slice_get left i ≡ Some μ
+  pub left-turn : (from i : ℕ) (made made' : List (Solution ℕ)) → from ≤ i → i < length left
       → IsSameBag made (flat_map gives (take (i - from) (drop from left)))
-      → IsSameBag made' (made ++ gives μ)
+      → IsSameBag made' (made ++ gives (get_or left i []))
       → IsSameBag made' (flat_map gives (take (i + 1 - from) (drop from left)))
-  left-turn from i μ made made' le low at h k =
+  left-turn from i made made' le low h k =
+      let μ : Solution ℕ = get_or left i [] in
       let n : i + 1 - from ≡ suc (i - from) = omega arith in
       let s : from + (i - from) ≡ i = omega arith in
       let l = length-drop from left in
       let here : get_or (drop from left) (i - from) [] ≡ μ =
-      get_or-drop from left (i - from) [] ∙ ap (λ (x : ℕ). get_or left x []) s ∙ get_or_from_slice_get left i μ [] at in
+      get_or-drop from left (i - from) [] ∙ ap (λ (x : ℕ). get_or left x []) s in
       let more : take (i + 1 - from) (drop from left) ≡ take (i - from) (drop from left) ++ μ ∷ [] =
       ap (λ (x : ℕ). take x (drop from left)) n ∙ take-suc (drop from left) (i - from) [] (omega arith) ∙ ap (λ (x : Solution ℕ). take (i - from) (drop from left) ++ x ∷ []) here in
       let parts : flat_map gives (take (i + 1 - from) (drop from left)) ≡ flat_map gives (take (i - from) (drop from left)) ++ gives μ =

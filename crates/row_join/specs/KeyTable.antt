@@ -1,12 +1,11 @@
 -- A hash table of distinct keys (a choice of this project). Only private clauses use these definitions.
-use Rattle.std.specs.Prelude.{◌≡◌, ◌≢◌, ℕ, ◌+◌, ◌-◌, ◌/◌, ◌^◌, ◌<◌, ◌≤◌, Bool, List, [], ◌∷◌, ◌++◌, length, get_or, nat_eq, min, bit_and, bit_xor, if◌then◌else◌}
+use Rattle.std.specs.Prelude.{◌≡◌, ◌≢◌, ℕ, ◌+◌, ◌-◌, ◌<◌, ◌≤◌, Bool, List, [], ◌∷◌, ◌++◌, length, get_or, nat_eq, bit_and, bit_xor, if◌then◌else◌}
 use Rattle.std.specs.List.{fold, list_any, position_or_len}
 use Rattle.std.specs.Cmp.Lexicographic.{pointwise}
 use Rattle.std.specs.Int.{to_le_bytes, w64}
 use Rattle.keyed_hash.specs.Hashing.{hash_of}
+use Rattle.keyed_hash.specs.declared.HashState.{HashState}
 use Rattle.row_join.specs.Places.{GroupList}
-use Rattle.row_join.specs.declared.hashing.Hashing.{Hashing}
-use Rattle.row_join.specs.declared.hashing.Hashing.TheVariants.{Keyed, Close}
 
 -- keys of one width
 pub record KeyList : Type 0 where
@@ -31,17 +30,16 @@ abbrev pub with_key : List (List ℕ) → List ℕ → List (List ℕ)
 with_key keys key = if list_any (same_numbers key) keys then keys else keys ++ key ∷ []
 
 -- the hash of one number
-abbrev pub hash_step : Hashing → ℕ → ℕ
-hash_step (Keyed state) n = hash_of state (to_le_bytes w64 n)
-hash_step (Close bits) n = n / 2 ^ min bits 63
+abbrev pub hash_step : HashState → ℕ → ℕ
+hash_step state n = hash_of state (to_le_bytes w64 n)
 
 -- the hash of a key: one step for each number
-abbrev pub key_hash : Hashing → List ℕ → ℕ
-key_hash hashing key = fold (λ h n. hash_step hashing (bit_xor h n)) 0 key
+abbrev pub key_hash : HashState → List ℕ → ℕ
+key_hash state key = fold (λ h n. hash_step state (bit_xor h n)) 0 key
 
 -- the bucket of a key, of this many
-abbrev pub bucket_of : Hashing → ℕ → List ℕ → ℕ
-bucket_of hashing buckets key = bit_and (key_hash hashing key) (buckets - 1)
+abbrev pub bucket_of : HashState → ℕ → List ℕ → ℕ
+bucket_of state buckets key = bit_and (key_hash state key) (buckets - 1)
 
 -- The link is one more than the place of the last key below `limit` whose bucket is b, or 0 if there is none.
 pub record IsLink (bucket : List ℕ → ℕ) (keys : List (List ℕ)) (b limit link : ℕ) : Type 0 where

@@ -3,7 +3,6 @@ ghost use Rattle.std.specs.Prelude.{◌≡◌, ◌*◌, IfOk, OnOk, length, nat_
 ghost use Rattle.algebra_model.specs.Operators.{distinct};
 ghost use Rattle.row_join.specs.RowKeys.{cell_numbers, row_numbers};
 
-use crate::hashing::Hashing;
 use crate::keys::Keys;
 use keyed_hash::HashState;
 use row_core::Rows;
@@ -22,8 +21,7 @@ pub fn distinct(alloc: Global, state: RandomState, rows: &Rows) -> Result<Rows, 
     let Some(numbers) = rows.width().checked_mul(2) else {
         return Err(AllocError);
     };
-    let hashing = Hashing::Keyed(HashState::new(state));
-    let mut seen = Keys::new(alloc, hashing, numbers, rows.len())?;
+    let mut seen = Keys::new(alloc, HashState::new(state), numbers, rows.len())?;
     let mut made = Rows::new(alloc, rows.width());
     let mut buffer = Vec::new(alloc);
     let mut key = Vec::new(alloc);

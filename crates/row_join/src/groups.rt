@@ -4,8 +4,8 @@ ghost use Rattle.std.specs.Cmp.Lexicographic.{pointwise};
 ghost use Rattle.std.specs.Prelude.{nat_eq};
 ghost use Rattle.row_join.specs.Places.{group_of, place_if};
 
-use crate::hashing::Hashing;
 use crate::keys::Keys;
+use keyed_hash::HashState;
 use smallvec::SmallVec;
 use std::alloc::{AllocError, Global};
 use std::marker::Model;
@@ -57,14 +57,14 @@ impl Groups {
     /// `AllocError` if an allocation fails.
     pub(crate) fn new(
         alloc: Global,
-        hashing: Hashing,
+        state: HashState,
         width: usize,
         count: usize,
     ) -> Result<Groups, AllocError>
         ensures empty { IfOk result (λ groups. (numbers : List ℕ) → group_of groups.list numbers ≡ []) }
         ensures width { IfOk result (λ groups. groups.width ≡ width) }
     {
-        let keys = Keys::new(alloc, hashing, width, count)?;
+        let keys = Keys::new(alloc, state, width, count)?;
         Ok(Groups {
             keys,
             groups: Vec::new(alloc),

@@ -10,6 +10,7 @@ use crate::left_joins::RowTest;
 use crate::left_rows::{Buffers, Pairing, pair_rows};
 use crate::merging::add_merges;
 use crate::right_side::RightSide;
+use crate::row_ref::RowRef;
 use piece_pool::Gate;
 use row_core::Rows;
 use row_pieces::{Context, EvalFault, How};
@@ -69,7 +70,7 @@ impl Pairing for Merges {
     fn add(
         &self,
         alloc: Global,
-        row: &[Option<u64>],
+        row: RowRef<'_>,
         right: &RightSide,
         buffers: &mut Buffers,
         made: &mut Rows,
@@ -91,5 +92,9 @@ impl RowTest for Always {
 
     fn keeps(&self, _alloc: Global, _row: &[Option<u64>]) -> Result<bool, AllocError> {
         Ok(true)
+    }
+
+    fn is_certain(&self) -> bool {
+        true
     }
 }

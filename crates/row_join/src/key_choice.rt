@@ -1,8 +1,8 @@
 //! The choice of the variables that make the join key of two lists of rows.
-ghost use Rattle.std.specs.Prelude.{◌≡◌, ◌<◌, All, IfOk, get_or, is_none, length, filter, None};
+ghost use Rattle.std.specs.Prelude.{◌≡◌, ◌<◌, All, IfOk};
 ghost use Rattle.row_join.specs.Pairing.{binds};
 
-use crate::hashing::{bounds_of, close_hashing};
+use crate::column::Column;
 use row_core::Rows;
 use std::alloc::{AllocError, Global};
 
@@ -30,73 +30,57 @@ pub(crate) fn is_ever_bound(rows: &Rows, variable: usize) -> bool
     false
 }
 
-/// Returns the number of rows that leave the variable unbound.
-fn open_rows(rows: &Rows, variable: usize) -> usize
-    requires below { variable < rows.now.width }
-    ensures count { result ≡ length (filter (λ μ. is_none (get_or μ variable None)) rows.now.rows) }
+/// Returns the columns of a variable that some row of each side binds, and None for any other. A side whose rows do not bind
+/// it is all that is read, up to the first row of the left side that does.
+fn candidate<'r>(
+    left: &'r Rows,
+    right: &'r Rows,
+    variable: usize,
+) -> Option<(Column<'r>, Column<'r>)>
+    requires same_width { left.now.width ≡ right.now.width }
+    requires below { variable < left.now.width }
 {
-    let mut open: usize = 0;
-    for i in 0..rows.len() {
-        if rows.get(i, variable).is_none() {
-            open += 1;
-        }
+    if !is_ever_bound(left, variable) {
+        return None;
     }
-    open
+    let of_right = Column::read(right, variable);
+    if of_right.open_rows() == right.len() {
+        return None;
+    }
+    Some((Column::read(left, variable), of_right))
 }
 
 /// Returns the number of pairs that are compared without a key if the variable is in the key. A row
 /// that leaves it unbound is compared with all rows of the other side.
-fn open_pairs(left: &Rows, right: &Rows, variable: usize) -> usize
-    requires same_width { left.now.width ≡ right.now.width }
-    requires below { variable < left.now.width }
-{
-    let of_left = open_rows(left, variable).saturating_mul(right.len());
-    let of_right = open_rows(right, variable).saturating_mul(left.len());
+fn open_pairs(left: &Column, right: &Column) -> usize {
+    let of_left = left.open_rows().saturating_mul(right.len());
+    let of_right = right.open_rows().saturating_mul(left.len());
     of_left.saturating_add(of_right)
 }
 
-/// Returns whether the variable can be the key alone: the numbers that the rows bind it to are close
-/// together, so that they need no hash, and few rows have the same number. A byte counts the rows of
-/// each number between the least and the greatest; these are at most sixteen for each row.
-fn is_enough(alloc: Global, rows: &Rows, variable: usize) -> Result<bool, AllocError>
-    requires below { variable < rows.now.width }
-{
-    let (least, greatest) = bounds_of(rows, variable);
-    if close_hashing(least, greatest, rows.len()).is_none() {
+/// Returns whether the variable can be the key alone: its numbers are close together, so that they
+/// need no hash, and few rows have the same number. A byte counts the rows of each number between
+/// the least and the greatest.
+fn is_enough(alloc: Global, column: &Column) -> Result<bool, AllocError> {
+    let Some(column) = column.close() else {
         return Ok(false);
-    }
-    let span = greatest.saturating_sub(least) as usize;
-    let mut counts = vec![in alloc; 0u8; span.saturating_add(1)]?;
-    for i in 0..rows.len() {
-        if let Some(number) = rows.get(i, variable) {
-            let at = number.saturating_sub(least) as usize;
-            if at >= counts.len() || counts[at] >= ROWS_A_NUMBER {
+    };
+    let mut counts = vec![in alloc; 0u8; column.span]?;
+    for place in 0..column.len() {
+        let slot = column.slot(place);
+        if slot < counts.len() {
+            if counts[slot] >= ROWS_A_NUMBER {
                 return Ok(false);
             }
-            counts[at] += 1;
+            counts[slot] += 1;
         }
     }
     Ok(true)
 }
 
-/// Returns the first variable of a key that can be the key alone, or else the whole key.
-fn shortest(alloc: Global, rows: &Rows, key: Vec<usize>) -> Result<Vec<usize>, AllocError>
-    requires below { All (λ v. v < rows.now.width) key.items }
-    ensures below { IfOk result (λ shortest. All (λ v. v < rows.now.width) shortest.items) }
-{
-    if key.len() > 1 {
-        for i in 0..key.len() {
-            if is_enough(alloc, rows, key[i])? {
-                return Ok(vec![in alloc; key[i]]?);
-            }
-        }
-    }
-    Ok(key)
-}
-
 /// Returns the variables of the join key. Candidates are the variables that some row of each side
-/// binds. The key has the candidates that add few pairs, or only one of them if that is enough. If
-/// none adds few pairs, it has all candidates. It is empty if the sides share no variable.
+/// binds. The key has the candidates that add few pairs, or only the first of them that is enough.
+/// If none adds few pairs, it has all candidates. It is empty if the sides share no variable.
 pub(crate) fn key_of(alloc: Global, left: &Rows, right: &Rows) -> Result<Vec<usize>, AllocError>
     requires same_width { left.now.width ≡ right.now.width }
     ensures below { IfOk result (λ key. All (λ v. v < left.now.width) key.items) }
@@ -106,9 +90,12 @@ pub(crate) fn key_of(alloc: Global, left: &Rows, right: &Rows) -> Result<Vec<usi
     let mut closed = Vec::new(alloc);
     let mut shared = Vec::new(alloc);
     for v in 0..left.width() {
-        if is_ever_bound(left, v) && is_ever_bound(right, v) {
+        if let Some((of_left, of_right)) = candidate(left, right, v) {
             shared.push(v)?;
-            if open_pairs(left, right, v) <= few {
+            if open_pairs(&of_left, &of_right) <= few {
+                if is_enough(alloc, &of_right)? {
+                    return Ok(vec![in alloc; v]?);
+                }
                 closed.push(v)?;
             }
         }
@@ -116,5 +103,5 @@ pub(crate) fn key_of(alloc: Global, left: &Rows, right: &Rows) -> Result<Vec<usi
     if closed.is_empty() {
         return Ok(shared);
     }
-    shortest(alloc, right, closed)
+    Ok(closed)
 }

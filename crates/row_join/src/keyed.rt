@@ -1,24 +1,43 @@
 //! An index of rows by the numbers that they bind some variables to.
-ghost use Rattle.std.specs.Prelude.{◌≡◌, ◌<◌, ℕ, IfOk, IsTrue, All, length, map, Some};
-ghost use Rattle.algebra_model.specs.Keys.{is_keyed};
-ghost use Rattle.algebra_model.specs.RowOrder.{cells};
+ghost use Rattle.std.specs.Prelude.{◌≡◌, ◌<◌, IfOk, All};
 ghost use Rattle.row_join.specs.Places.{IsTableOf, group_of};
 
-use crate::groups::Groups;
-use crate::hashing::hashing_of;
+use crate::column::Column;
+use crate::hashed_places::HashedPlaces;
+use crate::numbered_places::NumberedPlaces;
+use keyed_hash::HashState;
 use row_core::Rows;
 use std::alloc::{AllocError, Global};
 use std::hash::RandomState;
 use std::marker::Model;
 
+/// The two forms of the index.
+pub(crate) enum TableForm {
+    /// For a key of one variable whose numbers are close together.
+    Numbered(NumberedPlaces),
+    /// For any other key.
+    Hashed(HashedPlaces),
+}
+
+impl Drop for TableForm {
+    /// Drops the table. Written by hand (docs/PROOF.md).
+    fn drop(self) {
+        match self {
+            TableForm::Numbered(_) => {}
+            TableForm::Hashed(_) => {}
+        }
+    }
+}
+
 /// The places of rows by a key, which is a list of variables. A row that binds all of them is in
 /// the group of its numbers. The places of the other rows are in a list of their own.
 ///
-/// An unbound variable is never compared as if it were a number. The groups are in a hash table.
+/// An unbound variable is never compared as if it were a number. If the key is one variable whose
+/// numbers are close together, a group is found by its number. Otherwise the groups are in a hash
+/// table.
 #[derive(Drop)]
 pub struct Keyed {
-    groups: Groups,
-    apart: Vec<usize>,
+    table: TableForm,
 }
 
 impl Model for Keyed {
@@ -26,7 +45,9 @@ impl Model for Keyed {
 
     ghost Value = { PlaceTable };
 
-    ghost view = { λ k. record { keyed = k.groups.list; apart = k.apart.items } };
+    ghost use Rattle.row_join.specs.TableForms.{table_of};
+
+    ghost view = { λ k. table_of k.table };
 }
 
 impl Keyed {
@@ -48,21 +69,18 @@ impl Keyed {
         requires below { All (λ v. v < rows.now.width) key.now }
         ensures table { IfOk result (λ keyed. IsTableOf key.now rows.now.rows keyed) }
     {
-        let hashing = hashing_of(state, rows, key);
-        let mut groups = Groups::new(alloc, hashing, key.len(), rows.len())?;
-        let mut apart = Vec::new(alloc);
-        let mut numbers = Vec::new(alloc);
-        let mut buffer = Vec::new(alloc);
-        for place in 0..rows.len() {
-            rows.read(place, &mut buffer)?;
-            let row = buffer.as_slice();
-            if read_key(row, key, &mut numbers)? {
-                groups.add(alloc, &numbers, place)?;
-            } else {
-                apart.push(place)?;
+        if key.len() == 1 {
+            if let Some(column) = Column::read(rows, key[0]).close() {
+                let places = NumberedPlaces::build(alloc, &column)?;
+                return Ok(Keyed {
+                    table: TableForm::Numbered(places),
+                });
             }
         }
-        Ok(Keyed { groups, apart })
+        let places = HashedPlaces::build(alloc, HashState::new(state), rows, key)?;
+        Ok(Keyed {
+            table: TableForm::Hashed(places),
+        })
     }
 
     /// Returns the places of the rows that bind the key's variables to these numbers, in ascending
@@ -70,39 +88,19 @@ impl Keyed {
     pub fn places(&self, numbers: &Vec<u64>) -> &[usize]
         ensures value { result.now ≡ group_of self.now.keyed numbers.now.items }
     {
-        self.groups.places(numbers)
+        match &self.table {
+            TableForm::Numbered(places) => places.places(numbers),
+            TableForm::Hashed(places) => places.places(numbers),
+        }
     }
 
     /// Returns the places of the rows that leave a variable of the key unbound, in ascending order.
     pub fn apart(&self) -> &[usize]
         ensures value { result.now ≡ self.now.apart }
     {
-        &self.apart
-    }
-}
-
-/// Replaces the contents of `numbers` with the numbers that a row binds the key's variables to, and
-/// returns whether the row binds them all. If it does not, the contents of `numbers` are
-/// unspecified.
-///
-/// # Errors
-/// `AllocError` if an allocation fails. The contents of `numbers` are then unspecified.
-pub(crate) fn read_key(
-    row: &[Option<u64>],
-    key: &[usize],
-    numbers: &mut Vec<u64>,
-) -> Result<bool, AllocError>
-    requires below { All (λ v. v < length row.now) key.now }
-    ensures keyed { IfOk result (λ b. b ≡ is_keyed key.now row.now) }
-    ensures read { IfOk result (λ b. IsTrue b
-        → map Some numbers.new.items ≡ cells key.now row.now) }
-{
-    numbers.clear();
-    for i in 0..key.len() {
-        match row[key[i]] {
-            Some(number) => numbers.push(number)?,
-            None => return Ok(false),
+        match &self.table {
+            TableForm::Numbered(places) => places.apart(),
+            TableForm::Hashed(places) => places.apart(),
         }
     }
-    Ok(true)
 }

@@ -6,14 +6,15 @@ ghost use Rattle.std.specs.Prelude.{◌≡◌, ◌+◌, ◌*◌, ◌<◌, ◌≤
 ghost use Rattle.row_core.specs.RowList.{rows_in};
 ghost use Rattle.row_join.specs.KeyTable.{IsKeyTable, bucket_of, place_of, with_key};
 
-use crate::hashing::{Hashing, bucket_of};
+use crate::hashing::bucket_of;
+use keyed_hash::HashState;
 use std::alloc::{AllocError, Global};
 use std::marker::Model;
 
 /// Distinct keys, each a list of `width` numbers, in the order in which they were added. In contracts this type is the
 /// width and the list of the keys.
 pub(crate) struct Keys {
-    hashing: Hashing,
+    state: HashState,
     width: usize,
     numbers: Vec<u64>,
     buckets: Vec<usize>,
@@ -24,7 +25,7 @@ impl Drop for Keys {
     /// Frees the buffers. Written by hand (docs/PROOF.md).
     fn drop(self) {
         let Keys {
-            hashing: _,
+            state: _,
             width: _,
             numbers: _,
             buckets: _,
@@ -43,7 +44,7 @@ impl Model for Keys {
     ghost view = { λ k. record { width = k.width; keys = rows_in k.width k.width (length k.earlier.items) k.numbers.items } };
 
     ghost invariant = { λ k. (length k.numbers.items ≡ length k.earlier.items * k.width)
-        × IsKeyTable (bucket_of k.hashing (length k.buckets.items)) (rows_in k.width k.width (length k.earlier.items) k.numbers.items)
+        × IsKeyTable (bucket_of k.state (length k.buckets.items)) (rows_in k.width k.width (length k.earlier.items) k.numbers.items)
         k.buckets.items k.earlier.items };
 }
 
@@ -57,7 +58,7 @@ fn key_at(numbers: &[u64], width: usize, place: usize) -> &[u64]
 
 /// Returns the place of a key, given the fields.
 fn find(
-    hashing: Hashing,
+    state: HashState,
     width: usize,
     numbers: &[u64],
     buckets: &[usize],
@@ -65,13 +66,13 @@ fn find(
     key: &[u64],
 ) -> Option<usize>
     requires long { length numbers.now ≡ length earlier.now * width }
-    requires table { IsKeyTable (bucket_of hashing (length buckets.now)) (rows_in width width (length earlier.now) numbers.now)
+    requires table { IsKeyTable (bucket_of state (length buckets.now)) (rows_in width width (length earlier.now) numbers.now)
         buckets.now earlier.now }
     ensures value { MatchOption result
         (length earlier.now ≡ place_of key.now (rows_in width width (length earlier.now) numbers.now))
         (λ n. (n ≡ place_of key.now (rows_in width width (length earlier.now) numbers.now)) × (n < length earlier.now)) }
 {
-    let mut at = buckets[bucket_of(hashing, buckets.len(), key)];
+    let mut at = buckets[bucket_of(state, buckets.len(), key)];
     while at > 0 {
         if key_at(numbers, width, at - 1) == key {
             return Some(at - 1);
@@ -95,7 +96,7 @@ impl Keys {
     /// `AllocError` if an allocation fails.
     pub(crate) fn new(
         alloc: Global,
-        hashing: Hashing,
+        state: HashState,
         width: usize,
         count: usize,
     ) -> Result<Keys, AllocError>
@@ -104,7 +105,7 @@ impl Keys {
     {
         let buckets = vec![in alloc; 0usize; bucket_count(count)]?;
         Ok(Keys {
-            hashing,
+            state,
             width,
             numbers: Vec::new(alloc),
             buckets,
@@ -118,7 +119,7 @@ impl Keys {
             (λ at. (at ≡ place_of key.now self.now.keys) × (at < length self.now.keys)) }
     {
         find(
-            self.hashing,
+            self.state,
             self.width,
             &self.numbers,
             &self.buckets,
@@ -149,7 +150,7 @@ impl Keys {
         self.earlier.reserve(1)?;
         self.numbers.extend_from_slice(key)?;
         let at = self.earlier.len();
-        let bucket = bucket_of(self.hashing, self.buckets.len(), key);
+        let bucket = bucket_of(self.state, self.buckets.len(), key);
         self.earlier.push_reserved(self.buckets[bucket]);
         self.buckets[bucket] = at + 1;
         Ok(at)

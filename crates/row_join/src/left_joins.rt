@@ -9,6 +9,7 @@ ghost use Rattle.row_pieces.specs.declared.fault.EvalFault.TheVariants.{Memory};
 use crate::left_rows::{Buffers, Pairing, pair_rows};
 use crate::merging::add_merges;
 use crate::right_side::RightSide;
+use crate::row_ref::RowRef;
 use piece_pool::Gate;
 use row_core::Rows;
 use row_pieces::{Context, EvalFault, How};
@@ -19,7 +20,7 @@ use std::thread::Threads;
 
 /// The condition of a left join: a test of merged rows.
 pub trait RowTest {
-    ghost use Rattle.std.specs.Prelude.{◌≡◌, ℕ, Bool, true, IfOk};
+    ghost use Rattle.std.specs.Prelude.{◌≡◌, ℕ, Bool, true, IfOk, IsTrue};
     ghost use Rattle.algebra_model.specs.Solution.{Solution};
     ghost use Rattle.row_join.specs.Numbers.{passes};
 
@@ -36,6 +37,10 @@ pub trait RowTest {
     fn keeps(&self, alloc: Global, row: &[Option<u64>]) -> Result<bool, AllocError>
         requires known { passes (knows self.now) row.now ≡ true }
         ensures value { IfOk result (λ answer. answer ≡ keeps self.now row.now) };
+
+    /// Returns true only if the condition is true of every row. A join then tests no row.
+    fn is_certain(&self) -> bool
+        ensures all { IsTrue result → (row : Solution ℕ) → keeps self.now row ≡ true };
 }
 
 /// Computes LeftJoin: the merges of compatible pairs for which the condition is true, and each left
@@ -100,13 +105,13 @@ impl<'t, T: RowTest> Pairing for MergesOrItself<'t, T> {
     fn add(
         &self,
         alloc: Global,
-        row: &[Option<u64>],
+        row: RowRef<'_>,
         right: &RightSide,
         buffers: &mut Buffers,
         made: &mut Rows,
     ) -> Result<(), AllocError> {
         if add_merges(alloc, self.test, row, right, buffers, made)? {
-            made.push(row)?;
+            made.push_row(row.rows, row.at)?;
         }
         Ok(())
     }

@@ -3,10 +3,12 @@ ghost use Rattle.std.specs.Prelude.{◌≡◌, ◌≤◌, ◌++◌, ℕ, Bool, t
 ghost use Rattle.algebra_model.specs.Bag.{IsSameBag};
 ghost use Rattle.algebra_model.specs.Solution.{Solution};
 ghost use Rattle.row_join.specs.Numbers.{passes, all_pass};
+ghost use Rattle.row_join.specs.Row.{row_of};
 ghost use Rattle.row_pieces.specs.How.{HasOneWorker};
 ghost use Rattle.row_pieces.specs.declared.fault.EvalFault.TheVariants.{Memory};
 
 use crate::right_side::RightSide;
+use crate::row_ref::RowRef;
 use piece_pool::Gate;
 use row_core::Rows;
 use row_pieces::{Context, EvalFault, RowWork, over_pieces};
@@ -20,9 +22,7 @@ use std::thread::Threads;
 pub(crate) struct Buffers {
     /// The numbers of the left row's key.
     pub(crate) numbers: Vec<u64>,
-    /// The right row.
-    pub(crate) other: Vec<Option<u64>>,
-    /// The merge of both rows.
+    /// The merge of both rows, for a test.
     pub(crate) merged: Vec<Option<u64>>,
 }
 
@@ -38,17 +38,17 @@ pub(crate) trait Pairing {
     fn add(
         &self,
         alloc: Global,
-        row: &[Option<u64>],
+        row: RowRef<'_>,
         right: &RightSide,
         buffers: &mut Buffers,
         made: &mut Rows,
     ) -> Result<(), AllocError>
-        requires row_wide { length row.now ≡ right.now.rows.now.width }
+        requires row_wide { row.rows.now.width ≡ right.now.rows.now.width }
         requires made_wide { made.old.width ≡ right.now.rows.now.width }
-        requires row_known { passes (knows self.now) row.now ≡ true }
+        requires row_known { passes (knows self.now) (row_of row) ≡ true }
         requires right_known { all_pass (knows self.now) right.now.rows.now.rows ≡ true }
         ensures rows { OnOk result (IsSameBag made.new.rows
-            (made.old.rows ++ gives self.now right.now.rows.now.rows row.now)) }
+            (made.old.rows ++ gives self.now right.now.rows.now.rows (row_of row.entry))) }
         ensures width { OnOk result (made.new.width ≡ made.old.width) };
 }
 
@@ -82,13 +82,13 @@ impl<'w, 'r, P: Pairing> RowWork for LeftRows<'w, 'r, P> {
         let mut made = Rows::new(alloc, self.left.width());
         let mut buffers = Buffers {
             numbers: Vec::new(alloc),
-            other: Vec::new(alloc),
             merged: Vec::new(alloc),
         };
-        let mut buffer = Vec::new(alloc);
         for i in from..to {
-            self.left.read(i, &mut buffer)?;
-            let row = buffer.as_slice();
+            let row = RowRef {
+                rows: self.left,
+                at: i,
+            };
             self.pairing
                 .add(alloc, row, self.right, &mut buffers, &mut made)?;
         }

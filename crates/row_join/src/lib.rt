@@ -21,9 +21,11 @@
 //!
 //! Standard: SPARQL 1.1 Query Language, section 18.5.
 //!
-//! Reading order: `keyed` (over `groups`, `keys` and `hashing`, the hash table), `key_choice` (the variables of the key),
-//! `right_side` (the keyed rows, and the candidates for a left row), `left_rows` (the loop over the
-//! left rows, in pieces), `merging` (the merges of a left row), `joins`, `left_joins`, `minus_operator`, `distinct_rows`.
+//! Reading order: `keyed` (over `numbered_places` with `chains` and `column`, for one variable whose numbers are close together,
+//! and over `hashed_places` with `groups`, `keys` and `hashing`, the hash table), `key_choice` (the variables of the key),
+//! `row_ref` (a row in its list), `right_side` (the keyed rows, and the candidates for a left row), `left_rows` (the loop
+//! over the left rows, in pieces), `merging` (the merges of a left row), `joins`, `left_joins`, `minus_operator`,
+//! `distinct_rows`.
 //!
 //! ```text
 //! join((?s: 1), (?s: 2) ; (?s: 1, ?o: 7), (?o: 9))
@@ -34,8 +36,11 @@
 //! Not guaranteed: the order of the rows, which variables make the key, how much memory is taken.
 #![tactic(auto)]
 
+mod chains;
+mod column;
 mod distinct_rows;
 mod groups;
+mod hashed_places;
 mod hashing;
 mod joins;
 mod key_choice;
@@ -45,7 +50,9 @@ mod left_joins;
 mod left_rows;
 mod merging;
 mod minus_operator;
+mod numbered_places;
 mod right_side;
+mod row_ref;
 
 pub use distinct_rows::distinct;
 pub use joins::join;

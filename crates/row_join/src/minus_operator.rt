@@ -5,13 +5,15 @@ ghost use Rattle.algebra_model.specs.Operators.{minus};
 ghost use Rattle.row_join.specs.Numbers.{all_pass};
 ghost use Rattle.row_join.specs.Pairing.{is_apart};
 ghost use Rattle.row_join.specs.Places.{rows_at};
+ghost use Rattle.row_join.specs.Row.{row_of};
 ghost use Rattle.row_pieces.specs.How.{IsRunnable, HasOneWorker};
 ghost use Rattle.row_pieces.specs.declared.fault.EvalFault.TheVariants.{Memory};
 
 use crate::left_rows::{Buffers, Pairing, pair_rows};
 use crate::right_side::RightSide;
+use crate::row_ref::RowRef;
 use piece_pool::Gate;
-use row_core::{Rows, is_compatible, shares};
+use row_core::Rows;
 use row_pieces::{Context, EvalFault, How};
 use std::alloc::{AllocError, Global};
 use std::hash::RandomState;
@@ -71,13 +73,13 @@ impl Pairing for Remainder {
     fn add(
         &self,
         _alloc: Global,
-        row: &[Option<u64>],
+        row: RowRef<'_>,
         right: &RightSide,
         buffers: &mut Buffers,
         made: &mut Rows,
     ) -> Result<(), AllocError> {
-        if stays(row, right, buffers)? {
-            made.push(row)?;
+        if stays(row, right, &mut buffers.numbers)? {
+            made.push_row(row.rows, row.at)?;
         }
         Ok(())
     }
@@ -88,40 +90,35 @@ impl Pairing for Remainder {
 ///
 /// # Errors
 /// `AllocError` if an allocation fails.
-fn stays(row: &[Option<u64>], right: &RightSide, buffers: &mut Buffers) -> Result<bool, AllocError>
-    requires wide { length row.now ≡ right.now.rows.now.width }
-    ensures value { IfOk result (λ answer. answer ≡ is_apart right.now.rows.now.rows row.now) }
+fn stays(row: RowRef<'_>, right: &RightSide, numbers: &mut Vec<u64>) -> Result<bool, AllocError>
+    requires wide { row.rows.now.width ≡ right.now.rows.now.width }
+    ensures value { IfOk result (λ answer. answer
+        ≡ is_apart right.now.rows.now.rows (row_of row.entry)) }
 {
     if !right.shares(row) {
         return Ok(true);
     }
-    let tried = right.tried(row, &mut buffers.numbers)?;
-    let first = is_apart(row, right.rows, tried.first, &mut buffers.other)?;
-    let second = is_apart(row, right.rows, tried.second, &mut buffers.other)?;
+    let tried = right.tried(row, numbers)?;
+    let first = is_apart(row, right.rows, tried.first);
+    let second = is_apart(row, right.rows, tried.second);
     Ok(first && second)
 }
 
 /// Returns whether each of the rows at these places is incompatible with the row, or shares no
 /// bound variable with it.
-///
-/// # Errors
-/// `AllocError` if an allocation fails.
-fn is_apart(
-    row: &[Option<u64>],
-    right: &Rows,
-    places: &[usize],
-    other: &mut Vec<Option<u64>>,
-) -> Result<bool, AllocError>
-    requires row_wide { length row.now ≡ right.now.width }
+fn is_apart(row: RowRef<'_>, right: &Rows, places: &[usize]) -> bool
+    requires row_wide { row.rows.now.width ≡ right.now.width }
     requires inside { All (λ i. i < length right.now.rows) places.now }
-    ensures value { IfOk result (λ answer. answer ≡ is_apart (rows_at right.now.rows places.now) row.now) }
+    ensures value { result ≡ is_apart (rows_at right.now.rows places.now) (row_of row.entry) }
 {
     for i in 0..places.len() {
-        right.read(places[i], other)?;
-        let other = other.as_slice();
-        if is_compatible(row, other) && shares(row, other) {
-            return Ok(false);
+        let other = RowRef {
+            rows: right,
+            at: places[i],
+        };
+        if row.is_compatible(other) && row.shares(other) {
+            return false;
         }
     }
-    Ok(true)
+    true
 }

@@ -1,32 +1,35 @@
 //! The right side of a join: rows that are indexed once. All pieces of the left side borrow it.
-ghost use Rattle.std.specs.Prelude.{◌≡◌, ◌<◌, ◌++◌, ℕ, All, IfOk, None, filter, get_or, is_some, length, nat_eq};
+ghost use Rattle.std.specs.Prelude.{◌≡◌, ◌<◌, ◌++◌, ℕ, All, IfOk, None, [], filter, get_or, is_some, length, nat_eq};
 ghost use Rattle.std.specs.List.{range_with_len};
 ghost use Rattle.algebra_model.specs.Bag.{IsSameBag};
 ghost use Rattle.algebra_model.specs.Keys.{may_meet};
 ghost use Rattle.row_join.specs.Pairing.{binds, shares_some};
 ghost use Rattle.row_join.specs.Places.{IsTableOf, rows_at};
+ghost use Rattle.row_join.specs.Row.{row_of};
 
 use crate::key_choice::{is_ever_bound, key_of};
-use crate::keyed::{Keyed, read_key};
-use row_core::{Rows, shares};
+use crate::keyed::Keyed;
+use crate::row_ref::RowRef;
+use row_core::Rows;
 use std::alloc::{AllocError, Global};
 use std::hash::RandomState;
 
-/// The rows of the right side, their places by a key, all their places, and the variables that some
-/// row binds.
+/// The rows of the right side, their places by a key, all their places, and a row that binds the
+/// variables that some row binds.
 #[derive(Drop)]
 pub(crate) struct RightSide<'r> {
     pub(crate) rows: &'r Rows,
     key: Vec<usize>,
     keyed: Keyed,
     all: Vec<usize>,
-    bound: Vec<Option<u64>>,
+    bound: Rows,
     ghost below: { All (λ v. v < rows.now.width) key.items },
     ghost table: { IsTableOf key.items rows.now.rows keyed },
     ghost each: { all.items ≡ range_with_len 0 (length rows.now.rows) },
-    ghost bound_wide: { length bound.items ≡ rows.now.width },
+    ghost bound_some: { 0 < length bound.rows },
+    ghost bound_wide: { bound.width ≡ rows.now.width },
     ghost covers: { (v : ℕ) → v < rows.now.width
-        → is_some (get_or bound.items v None) ≡ binds rows.now.rows v },
+        → is_some (get_or (get_or bound.rows 0 []) v None) ≡ binds rows.now.rows v },
 }
 
 /// The places of the right rows that are candidates for a left row, in two lists.
@@ -47,17 +50,20 @@ fn places_of(alloc: Global, count: usize) -> Result<Vec<usize>, AllocError>
     Ok(places)
 }
 
-/// Returns a row that binds each variable that some of the rows binds, to 0.
-fn bound_by_some(alloc: Global, rows: &Rows) -> Result<Vec<Option<u64>>, AllocError>
-    ensures wide { IfOk result (λ row. length row.items ≡ rows.now.width) }
-    ensures bound { IfOk result (λ row. (v : ℕ) → v < rows.now.width
-        → is_some (get_or row.items v None) ≡ binds rows.now.rows v) }
+/// Returns a list of one row, which binds each variable that some of the rows binds, to 0.
+fn bound_by_some(alloc: Global, rows: &Rows) -> Result<Rows, AllocError>
+    ensures some { IfOk result (λ bound. 0 < length bound.rows) }
+    ensures wide { IfOk result (λ bound. bound.width ≡ rows.now.width) }
+    ensures bound { IfOk result (λ bound. (v : ℕ) → v < rows.now.width
+        → is_some (get_or (get_or bound.rows 0 []) v None) ≡ binds rows.now.rows v) }
 {
+    let mut bound = Rows::new(alloc, rows.width());
     let mut row = Vec::new(alloc);
     for v in 0..rows.width() {
         row.push(is_ever_bound(rows, v).then_some(0))?;
     }
-    Ok(row)
+    bound.push(&row)?;
+    Ok(bound)
 }
 
 impl<'r> RightSide<'r> {
@@ -88,11 +94,15 @@ impl<'r> RightSide<'r> {
     }
 
     /// Returns whether the left row shares a bound variable with some right row.
-    pub(crate) fn shares(&self, row: &[Option<u64>]) -> bool
-        requires wide { length row.now ≡ self.now.rows.now.width }
-        ensures value { result ≡ shares_some self.now.rows.now.rows row.now }
+    pub(crate) fn shares(&self, row: RowRef<'_>) -> bool
+        requires wide { row.rows.now.width ≡ self.now.rows.now.width }
+        ensures value { result ≡ shares_some self.now.rows.now.rows (row_of row.entry) }
     {
-        shares(row, &self.bound)
+        let _wide = row.width();
+        row.shares(RowRef {
+            rows: &self.bound,
+            at: 0,
+        })
     }
 
     /// Returns the places of the right rows that are candidates for a left row. If the left row
@@ -103,17 +113,17 @@ impl<'r> RightSide<'r> {
     /// `AllocError` if an allocation fails.
     pub(crate) fn tried(
         &self,
-        row: &[Option<u64>],
+        row: RowRef<'_>,
         numbers: &mut Vec<u64>,
     ) -> Result<Tried<'_>, AllocError>
-        requires wide { length row.now ≡ self.now.rows.now.width }
+        requires wide { row.rows.now.width ≡ self.now.rows.now.width }
         ensures tried { IfOk result (λ tried. IsSameBag
             (rows_at self.now.rows.now.rows (tried.first.now ++ tried.second.now))
-            (filter (may_meet nat_eq self.now.key.items row.now) self.now.rows.now.rows)) }
+            (filter (may_meet nat_eq self.now.key.items (row_of row.entry)) self.now.rows.now.rows)) }
         ensures first { IfOk result (λ tried. All (λ i. i < length self.now.rows.now.rows) tried.first.now) }
         ensures second { IfOk result (λ tried. All (λ i. i < length self.now.rows.now.rows) tried.second.now) }
     {
-        if read_key(row, &self.key, numbers)? {
+        if row.read_key(&self.key, numbers)? {
             return Ok(Tried {
                 first: self.keyed.places(numbers),
                 second: self.keyed.apart(),

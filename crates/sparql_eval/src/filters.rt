@@ -138,7 +138,7 @@ impl<'a> RowWork for FilterWork<'a> {
                 row,
             };
             if test_counted(alloc, self.condition, &row, self.place)? {
-                made.push(row.row)?;
+                made.push_row(self.rows, i)?;
             }
         }
         Ok(made)

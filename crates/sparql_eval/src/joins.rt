@@ -392,14 +392,15 @@ impl<'a> RowTest for Condition<'a> {
     ghost keeps = { λ t μ. holds (expression_of t.condition.now) (read_row (term_at t.dict.now) μ) };
 
     fn keeps(&self, alloc: Global, row: &[Option<u64>]) -> Result<bool, AllocError> {
-        if self.is_certain {
-            return Ok(true);
-        }
         let row = ReadRow {
             dict: self.dict,
             row,
         };
         test_counted(alloc, self.condition, &row, self.place)
+    }
+
+    fn is_certain(&self) -> bool {
+        self.is_certain
     }
 }
 

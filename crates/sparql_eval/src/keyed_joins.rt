@@ -172,4 +172,8 @@ impl<'a> RowTest for FirstCondition<'a> {
         };
         test_counted(alloc, self.condition, &row, self.place)
     }
+
+    fn is_certain(&self) -> bool {
+        false
+    }
 }

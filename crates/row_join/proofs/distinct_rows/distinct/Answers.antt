@@ -1,7 +1,5 @@
-use Rattle.std.proofs.Common.{◌≡◌, ◌++◌, ◌∷◌, [], ap, sym, ◌∙◌, Bool, List, ℕ, arith, length, nat_eq, map, take, Some, refl, if◌then◌else◌}
-use Rattle.algebra_model.specs.Operators.{distinct}
+use Rattle.std.proofs.Common.{◌≡◌, ◌++◌, ◌∷◌, [], ap, sym, ◌∙◌, Bool, List, ℕ, arith, nat_eq, Some, if◌then◌else◌}
 use Rattle.row_join.specs.KeyTable.{place_of, with_key}
-use Rattle.row_join.specs.RowKeys.{row_numbers}
 use Rattle.row_join.proofs.DistinctLaws.{distinct-turn, equal-if, unequal-if}
 use Rattle.row_join.proofs.distinct_rows.distinct.Goals as goal
 use Rattle.row_join.proofs.distinct_rows.distinct.Goals.{then-place-len+in_ok-push, else-place-len}

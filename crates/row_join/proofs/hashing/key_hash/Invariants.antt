@@ -3,4 +3,4 @@ use Rattle.row_join.specs.KeyTable.{key_hash}
 use Rattle.row_join.proofs.hashing.key_hash.Given as goal
 
 abbrev pub invariant-loop-number : goal.invariant-loop-number
-invariant-loop-number l = l.hash ≡ key_hash l.hashing (take l.number-index l.numbers)
+invariant-loop-number l = l.hash ≡ key_hash l.state (take l.number-index l.numbers)

@@ -10,7 +10,7 @@ pub loop-at-init : goal.loop-at-init
 loop-at-init c =
     let w = c.args.width in
     let n = length c.args.earlier.now in
-    search-start (bucket_of c.args.hashing (length c.args.buckets.now)) (rows_in w w n c.args.numbers.now) c.args.buckets.now c.args.earlier.now c.requires.table
+    search-start (bucket_of c.args.state (length c.args.buckets.now)) (rows_in w w n c.args.numbers.now) c.args.buckets.now c.args.earlier.now c.requires.table
     c.args.key.now c.bucket_of.result _ c.bucket_of.ensures.value c.bucket_of.ensures.within refl
 
 pub key_at-requires : goal.key_at-requires
@@ -26,7 +26,7 @@ loop-at-preserved c =
     let at = c.loop-at.at in
     let low = c.loop-at.invariant.low in
     let keys = rows_in w w n c.args.numbers.now in
-    search-next (bucket_of c.args.hashing (length c.args.buckets.now)) keys c.args.buckets.now c.args.earlier.now c.requires.table
+    search-next (bucket_of c.args.state (length c.args.buckets.now)) keys c.args.buckets.now c.args.earlier.now c.requires.table
     c.args.key.now c.key_at.result.now at _ c.loop-at-test.true c.loop-at.invariant
     (get_or_from_slice_get keys (at - 1) c.key_at.result.now [] (c.key_at.ensures.value n (omega arith)))
     (sym c.eq.ensures ∙ c.if-eq.false) refl
@@ -35,7 +35,7 @@ pub loop-at-smaller : goal.loop-at-smaller
 loop-at-smaller c =
     let w = c.args.width in
     let n = length c.args.earlier.now in
-    link-below (bucket_of c.args.hashing (length c.args.buckets.now)) (rows_in w w n c.args.numbers.now) c.args.buckets.now c.args.earlier.now c.requires.table
+    link-below (bucket_of c.args.state (length c.args.buckets.now)) (rows_in w w n c.args.numbers.now) c.args.buckets.now c.args.earlier.now c.requires.table
     c.loop-at.at c.loop-at-test.true c.loop-at.invariant.low
 
 pub returns-then-eq : goal.returns-then-eq
@@ -49,7 +49,7 @@ returns-then-eq c =
     let below : at - 1 < n = omega arith in
     record {
       value = (
-        found-place (bucket_of c.args.hashing (length c.args.buckets.now)) keys c.args.buckets.now c.args.earlier.now c.requires.table
+        found-place (bucket_of c.args.state (length c.args.buckets.now)) keys c.args.buckets.now c.args.earlier.now c.requires.table
             c.args.key.now c.key_at.result.now (at - 1) (omega arith)
             (get_or_from_slice_get keys (at - 1) c.key_at.result.now [] (c.key_at.ensures.value n below))
             (sym c.eq.ensures ∙ c.if-eq.true),
@@ -62,7 +62,7 @@ returns c =
     let w = c.args.width in
     let n = length c.args.earlier.now in
     record {
-      value = no-place (bucket_of c.args.hashing (length c.args.buckets.now)) (rows_in w w n c.args.numbers.now) c.args.buckets.now c.args.earlier.now c.requires.table
+      value = no-place (bucket_of c.args.state (length c.args.buckets.now)) (rows_in w w n c.args.numbers.now) c.args.buckets.now c.args.earlier.now c.requires.table
           c.args.key.now c.loop-at.at c.loop-at-test.false (length-rows_in w w n c.args.numbers.now) c.loop-at.invariant;
     }
 

@@ -2,11 +2,12 @@ use Rattle.std.proofs.Common.{◌≡◌, ◌++◌, take, nat_eq, filter}
 use Rattle.algebra_model.specs.Operators.{merges}
 use Rattle.algebra_model.specs.Solve.{alone}
 use Rattle.row_join.specs.Places.{rows_at}
+use Rattle.row_join.specs.Row.{row_of}
 use Rattle.row_join.proofs.merging.add_kept.Given as goal
 
 abbrev pub invariant-loop-i : goal.invariant-loop-i
 invariant-loop-i g l = record {
   width : l.made.width ≡ l.fn.made.width;
-  rows : l.made.rows ≡ l.fn.made.rows ++ filter (g.T.RowTest.keeps l.test) (merges nat_eq l.row (rows_at l.right.rows (take l.i l.places)));
-  alone : l.alone ≡ alone nat_eq (g.T.RowTest.keeps l.test) (rows_at l.right.rows (take l.i l.places)) l.row;
+  rows : l.made.rows ≡ l.fn.made.rows ++ filter (g.T.RowTest.keeps l.test) (merges nat_eq (row_of l.row) (rows_at l.right.rows (take l.i l.places)));
+  alone : l.alone ≡ alone nat_eq (g.T.RowTest.keeps l.test) (rows_at l.right.rows (take l.i l.places)) (row_of l.row);
 }

@@ -1,13 +1,14 @@
 use Rattle.std.proofs.Common.{◌&&◌, ap, sym, ◌∙◌, nat_eq}
 use Rattle.algebra_model.specs.Solve.{alone}
 use Rattle.row_join.specs.Places.{rows_at}
+use Rattle.row_join.specs.Row.{row_of}
 use Rattle.row_join.proofs.PairLaws.{kept-tried, alone_both}
 use Rattle.row_join.proofs.merging.add_merges.Goals as goal
 
 pub returns-then-first : goal.returns-then-first
 returns-then-first g c =
     let right = c.args.right.now in
-    let row = c.args.row.now in
+    let row = row_of c.args.row in
     let tried = c.in_ok-tried.tried in
     let keeps = g.T.RowTest.keeps c.args.test.now in
     record {
@@ -22,7 +23,7 @@ returns-then-first g c =
 pub returns-else-first : goal.returns-else-first
 returns-else-first g c =
     let right = c.args.right.now in
-    let row = c.args.row.now in
+    let row = row_of c.args.row in
     let tried = c.in_ok-tried.tried in
     let keeps = g.T.RowTest.keeps c.args.test.now in
     record {

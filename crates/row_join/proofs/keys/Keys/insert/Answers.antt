@@ -14,7 +14,7 @@ invariant_of-self-2 c =
     let r = c.self.inside in
     let at : c.len-at.result ≡ length r.earlier.items = omega (arith, c.len-at.ensures, c.reserve.new.self.ok.0, ap length c.in_ok-reserve.ensures.items) in
     let size : c.len.result ≡ length r.buckets.items = omega (arith, c.len.ensures, r.buckets.ok.0) in
-    inserted-table r.hashing r.width r.numbers.items r.buckets.items r.earlier.items c.args.key.now c.extend_from_slice.new.self.items c.push_reserved.new.self.items c.args.self.now
+    inserted-table r.state r.width r.numbers.items r.buckets.items r.earlier.items c.args.key.now c.extend_from_slice.new.self.items c.push_reserved.new.self.items c.args.self.now
     c.bucket_of-bucket.result c.len-at.result c.index.result.now c.len.result c.self.view_is c.self.invariant.0 c.self.invariant.1 c.requires.wide c.in_default.ensures.value at size
     c.bucket_of-bucket.ensures.value c.bucket_of-bucket.ensures.within c.index.ensures c.in_ok-extend_from_slice.ensures.items
     (c.push_reserved.ensures.items ∙ ap (λ (l : List ℕ). l ++ c.index.result.now ∷ []) c.in_ok-reserve.ensures.items)
@@ -24,7 +24,7 @@ returns-clause-place c =
     let r = c.self.inside in
     let at : c.len-at.result ≡ length r.earlier.items = omega (arith, c.len-at.ensures, c.reserve.new.self.ok.0, ap length c.in_ok-reserve.ensures.items) in
     let size : c.len.result ≡ length r.buckets.items = omega (arith, c.len.ensures, r.buckets.ok.0) in
-    inserted-place r.hashing r.width r.numbers.items r.buckets.items r.earlier.items c.args.key.now c.extend_from_slice.new.self.items c.push_reserved.new.self.items c.args.self.now
+    inserted-place r.state r.width r.numbers.items r.buckets.items r.earlier.items c.args.key.now c.extend_from_slice.new.self.items c.push_reserved.new.self.items c.args.self.now
     c.bucket_of-bucket.result c.len-at.result c.index.result.now c.len.result c.self.view_is c.self.invariant.0 c.self.invariant.1 c.requires.wide c.in_default.ensures.value at size
     c.bucket_of-bucket.ensures.value c.bucket_of-bucket.ensures.within c.index.ensures c.in_ok-extend_from_slice.ensures.items
     (c.push_reserved.ensures.items ∙ ap (λ (l : List ℕ). l ++ c.index.result.now ∷ []) c.in_ok-reserve.ensures.items)
@@ -34,7 +34,7 @@ returns-clause-within c =
     let r = c.self.inside in
     let at : c.len-at.result ≡ length r.earlier.items = omega (arith, c.len-at.ensures, c.reserve.new.self.ok.0, ap length c.in_ok-reserve.ensures.items) in
     let size : c.len.result ≡ length r.buckets.items = omega (arith, c.len.ensures, r.buckets.ok.0) in
-    inserted-within r.hashing r.width r.numbers.items r.buckets.items r.earlier.items c.args.key.now c.extend_from_slice.new.self.items c.push_reserved.new.self.items c.args.self.now
+    inserted-within r.state r.width r.numbers.items r.buckets.items r.earlier.items c.args.key.now c.extend_from_slice.new.self.items c.push_reserved.new.self.items c.args.self.now
     c.bucket_of-bucket.result c.len-at.result c.index.result.now c.len.result c.self.view_is c.self.invariant.0 c.self.invariant.1 c.requires.wide c.in_default.ensures.value at size
     c.bucket_of-bucket.ensures.value c.bucket_of-bucket.ensures.within c.index.ensures c.in_ok-extend_from_slice.ensures.items
     (c.push_reserved.ensures.items ∙ ap (λ (l : List ℕ). l ++ c.index.result.now ∷ []) c.in_ok-reserve.ensures.items)
@@ -44,7 +44,7 @@ returns-clause-count c =
     let r = c.self.inside in
     let at : c.len-at.result ≡ length r.earlier.items = omega (arith, c.len-at.ensures, c.reserve.new.self.ok.0, ap length c.in_ok-reserve.ensures.items) in
     let size : c.len.result ≡ length r.buckets.items = omega (arith, c.len.ensures, r.buckets.ok.0) in
-    inserted-count r.hashing r.width r.numbers.items r.buckets.items r.earlier.items c.args.key.now c.extend_from_slice.new.self.items c.push_reserved.new.self.items c.args.self.now
+    inserted-count r.state r.width r.numbers.items r.buckets.items r.earlier.items c.args.key.now c.extend_from_slice.new.self.items c.push_reserved.new.self.items c.args.self.now
     c.bucket_of-bucket.result c.len-at.result c.index.result.now c.len.result c.self.view_is c.self.invariant.0 c.self.invariant.1 c.requires.wide c.in_default.ensures.value at size
     c.bucket_of-bucket.ensures.value c.bucket_of-bucket.ensures.within c.index.ensures c.in_ok-extend_from_slice.ensures.items
     (c.push_reserved.ensures.items ∙ ap (λ (l : List ℕ). l ++ c.index.result.now ∷ []) c.in_ok-reserve.ensures.items)
@@ -54,7 +54,7 @@ returns-clause-keys c =
     let r = c.self.inside in
     let at : c.len-at.result ≡ length r.earlier.items = omega (arith, c.len-at.ensures, c.reserve.new.self.ok.0, ap length c.in_ok-reserve.ensures.items) in
     let size : c.len.result ≡ length r.buckets.items = omega (arith, c.len.ensures, r.buckets.ok.0) in
-    inserted-keys r.hashing r.width r.numbers.items r.buckets.items r.earlier.items c.args.key.now c.extend_from_slice.new.self.items c.push_reserved.new.self.items c.args.self.now
+    inserted-keys r.state r.width r.numbers.items r.buckets.items r.earlier.items c.args.key.now c.extend_from_slice.new.self.items c.push_reserved.new.self.items c.args.self.now
     c.bucket_of-bucket.result c.len-at.result c.index.result.now c.len.result c.self.view_is c.self.invariant.0 c.self.invariant.1 c.requires.wide c.in_default.ensures.value at size
     c.bucket_of-bucket.ensures.value c.bucket_of-bucket.ensures.within c.index.ensures c.in_ok-extend_from_slice.ensures.items
     (c.push_reserved.ensures.items ∙ ap (λ (l : List ℕ). l ++ c.index.result.now ∷ []) c.in_ok-reserve.ensures.items)

@@ -1,5 +1,5 @@
-use Rattle.std.proofs.Common.{ap, ◌∙◌, arith}
-use Rattle.algebra_model.specs.Operators.{share}
+use Rattle.std.proofs.Common.{[], get_or, ◌∙◌, arith}
+use Rattle.row_join.specs.Row.{row_of}
 use Rattle.row_join.proofs.ShareLaws.{shared_with}
 use Rattle.row_join.proofs.right_side.RightSide.shares.Goals as goal
 
@@ -8,6 +8,5 @@ returns c =
     let right = c.args.self.now in
     record {
       value = c.shares.ensures.value
-          ∙ ap (share c.args.row.now) c.deref.ensures.value
-          ∙ shared_with c.args.row.now right.bound.items right.rows.now.rows (λ v low. right.covers v (omega arith));
+          ∙ shared_with (row_of c.args.row) (get_or right.bound.rows 0 []) right.rows.now.rows (λ v low. right.covers v (omega arith));
     }

@@ -3,6 +3,7 @@ use Rattle.algebra_model.specs.Bag.{IsSameBag}
 use Rattle.algebra_model.specs.Keys.{is_keyed, may_meet}
 use Rattle.algebra_model.specs.RowOrder.{cells}
 use Rattle.row_join.specs.Places.{has_key, rows_at}
+use Rattle.row_join.specs.Row.{row_of}
 use Rattle.row_join.proofs.PlaceLaws.{keyed_tried, unkeyed_tried, places_inside, all_inside}
 use Rattle.row_join.proofs.right_side.RightSide.tried.Goals as goal
 
@@ -11,7 +12,7 @@ returns-then-branch-clause-tried c =
     let right = c.args.self.now in
     let rows = right.rows.now.rows in
     let key = right.key.items in
-    let row = c.args.row.now in
+    let row = row_of c.args.row in
     let read = c.in_ok-read_key.ensures in
     subst (λ (l : List ℕ). IsSameBag (rows_at rows l) (filter (may_meet nat_eq key row) rows))
     (λ j. sym c.places.ensures.value j ++ sym c.apart.ensures.value j)
@@ -36,7 +37,7 @@ returns-clause-tried c =
     let right = c.args.self.now in
     let rows = right.rows.now.rows in
     let key = right.key.items in
-    let row = c.args.row.now in
+    let row = row_of c.args.row in
     let read = c.in_ok-read_key.ensures in
     subst (λ (l : List ℕ). IsSameBag (rows_at rows (l ++ [])) (filter (may_meet nat_eq key row) rows))
     (sym (c.deref-2.ensures.value ∙ right.each))

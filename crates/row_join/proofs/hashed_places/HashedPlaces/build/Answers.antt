@@ -1,29 +1,29 @@
-use Rattle.std.proofs.Common.{ℕ, List, ◌++◌, nat_eq, not, sym, ap, ◌∙◌, true, false, length, Some}
+use Rattle.std.proofs.Common.{ℕ, List, ◌++◌, nat_eq, not, sym, ap, ◌∙◌, true, false, length, get_or, []}
 use Rattle.std.proofs.lemmas.List.{append-nil}
 use Rattle.std.specs.Cmp.Lexicographic.{pointwise}
 use Rattle.algebra_model.specs.Keys.{is_keyed}
 use Rattle.row_join.specs.Places.{group_of, has_key, place_if}
 use Rattle.row_join.proofs.PlaceLaws.{places-turn, has_key-numbers, has_key-unkeyed, read_wide}
-use Rattle.row_join.proofs.keyed.Keyed.build.Goals as goal
-use Rattle.row_join.proofs.keyed.Keyed.build.Goals.{then-branch+in_ok-add, else-branch+in_ok-push}
+use Rattle.row_join.proofs.hashed_places.HashedPlaces.build.Goals as goal
+use Rattle.row_join.proofs.hashed_places.HashedPlaces.build.Goals.{then-branch+in_ok-add, else-branch+in_ok-push}
 
 pub loop-place-preserved : goal.loop-place-preserved
 loop-place-preserved c =
     let key = c.args.key.now in
     let rows = c.args.rows.now.rows in
     let n = c.loop-place.place in
-    let row = c.as_slice-row.result.now in
+    let row = get_or rows n [] in
     let read = c.in_ok-read_key.ensures in
     elim c.if-branch.branch [
       | then-branch+in_ok-add w ↦ record {
         keyed = λ f.
-            places-turn (has_key key f) rows n row (c.in_ok-read.ensures.found ∙ ap Some (sym c.as_slice-row.ensures.value)) (pointwise nat_eq f c.read_key.new.numbers.items)
+            places-turn (has_key key f) rows n (pointwise nat_eq f c.read_key.new.numbers.items)
             (has_key-numbers key c.read_key.new.numbers.items row (read.read w.if-branch.true) f)
             (group_of c.loop-place.groups.list f) (group_of c.if-branch.groups.list f) (c.loop-place.invariant.keyed f)
             (ap (λ g. group_of g.list f) w.groups-is ∙ w.in_ok-add.ensures.added f
             ∙ ap (λ (ns : List ℕ). group_of c.loop-place.groups.list f ++ place_if (pointwise nat_eq f ns) n) w.deref.ensures.value);
         apart =
-            places-turn (λ μ. not (is_keyed key μ)) rows n row (c.in_ok-read.ensures.found ∙ ap Some (sym c.as_slice-row.ensures.value)) false
+            places-turn (λ μ. not (is_keyed key μ)) rows n false
             (ap not (sym read.keyed ∙ w.if-branch.true))
             c.loop-place.apart.items c.if-branch.apart.items c.loop-place.invariant.apart
             (ap (λ a. a.items) w.apart-is ∙ sym (append-nil c.loop-place.apart.items));
@@ -31,12 +31,12 @@ loop-place-preserved c =
       }
       | else-branch+in_ok-push w ↦ record {
         keyed = λ f.
-            places-turn (has_key key f) rows n row (c.in_ok-read.ensures.found ∙ ap Some (sym c.as_slice-row.ensures.value)) false
+            places-turn (has_key key f) rows n false
             (has_key-unkeyed key row (sym read.keyed ∙ w.if-branch.false) f)
             (group_of c.loop-place.groups.list f) (group_of c.if-branch.groups.list f) (c.loop-place.invariant.keyed f)
             (ap (λ g. group_of g.list f) w.groups-is ∙ sym (append-nil (group_of c.loop-place.groups.list f)));
         apart =
-            places-turn (λ μ. not (is_keyed key μ)) rows n row (c.in_ok-read.ensures.found ∙ ap Some (sym c.as_slice-row.ensures.value)) true
+            places-turn (λ μ. not (is_keyed key μ)) rows n true
             (ap not (sym read.keyed ∙ w.if-branch.false))
             c.loop-place.apart.items c.if-branch.apart.items c.loop-place.invariant.apart
             (ap (λ a. a.items) w.apart-is ∙ w.in_ok-push.ensures.items);
@@ -48,5 +48,5 @@ pub add-requires : goal.add-requires
 add-requires c =
     let read = c.in_ok-read_key.ensures in
     record {
-      wide = ap length c.deref.ensures.value ∙ read_wide c.args.key.now c.as_slice-row.result.now c.read_key.new.numbers.items (read.read c.if-branch.true) ∙ sym c.loop-place.invariant.wide;
+      wide = ap length c.deref.ensures.value ∙ read_wide c.args.key.now (get_or c.args.rows.now.rows c.loop-place.place []) c.read_key.new.numbers.items (read.read c.if-branch.true) ∙ sym c.loop-place.invariant.wide;
     }

@@ -1,7 +1,7 @@
 use Rattle.std.proofs.Common.{◌≡◌, ℕ, List, length, not}
 use Rattle.algebra_model.specs.Keys.{is_keyed}
 use Rattle.row_join.specs.Places.{group_of, has_key, places_below}
-use Rattle.row_join.proofs.keyed.Keyed.build.Given as goal
+use Rattle.row_join.proofs.hashed_places.HashedPlaces.build.Given as goal
 
 abbrev pub invariant-loop-place : goal.invariant-loop-place
 invariant-loop-place l = record {

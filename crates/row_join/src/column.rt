@@ -1,0 +1,113 @@
+//! One variable of rows: how many rows leave it unbound, and between which bounds its numbers are. If these are close
+//! together, each row has a slot, and no hash is needed.
+ghost use Rattle.std.specs.Prelude.{◌≡◌, ◌+◌, ◌<◌, ◌≤◌, IfSome, None, filter, get_or, is_none, length};
+ghost use Rattle.row_join.specs.Slots.{AreBetween, slot_at};
+
+use row_core::Rows;
+
+/// The most numbers for each row, from the least number to the greatest, that are close together.
+const NUMBERS_A_ROW: usize = 8;
+
+/// A variable of rows, with what one pass over the rows finds: the number of rows that leave it unbound, and the least and
+/// the greatest number. If no row binds it, the least number is above the greatest.
+#[derive(Clone, Copy)]
+pub(crate) struct Column<'r> {
+    rows: &'r Rows,
+    variable: usize,
+    open_rows: usize,
+    least: u64,
+    greatest: u64,
+    ghost below: { variable < rows.now.width },
+    ghost between: { AreBetween rows.now.rows variable least (greatest + 1) },
+}
+
+/// A variable of rows whose numbers are close together. Each number from the least on has a slot, `span` of them, and the
+/// rows that leave the variable unbound have the slot after these.
+#[derive(Clone, Copy)]
+pub(crate) struct CloseColumn<'r> {
+    rows: &'r Rows,
+    variable: usize,
+    pub(crate) least: u64,
+    pub(crate) span: usize,
+    ghost below: { variable < rows.now.width },
+    ghost between: { AreBetween rows.now.rows variable least (least + span) },
+}
+
+impl<'r> Column<'r> {
+    /// Reads a variable of all rows.
+    pub(crate) fn read(rows: &'r Rows, variable: usize) -> Column<'r>
+        requires below { variable < rows.now.width }
+        ensures rows { result.rows.now ≡ rows.now }
+        ensures variable { result.variable ≡ variable }
+        ensures open_rows { result.open_rows ≡ length (filter (λ μ. is_none (get_or μ variable None)) rows.now.rows) }
+    {
+        let mut open_rows: usize = 0;
+        let mut least = u64::MAX;
+        let mut greatest: u64 = 0;
+        for i in 0..rows.len() {
+            match rows.get(i, variable) {
+                Some(number) => {
+                    least = least.min(number);
+                    greatest = greatest.max(number);
+                }
+                None => open_rows += 1,
+            }
+        }
+        Column {
+            rows,
+            variable,
+            open_rows,
+            least,
+            greatest,
+        }
+    }
+
+    /// Returns the number of rows.
+    pub(crate) fn len(&self) -> usize {
+        self.rows.len()
+    }
+
+    /// Returns the number of rows that leave the variable unbound.
+    pub(crate) fn open_rows(&self) -> usize {
+        self.open_rows
+    }
+
+    /// Returns the column as one of close numbers: from the least to the greatest there are at most eight for each row.
+    /// Returns None if there are more, or if no row binds the variable.
+    pub(crate) fn close(&self) -> Option<CloseColumn<'r>>
+        ensures rows { IfSome result (λ column. column.rows.now ≡ self.now.rows.now) }
+        ensures variable { IfSome result (λ column. column.variable ≡ self.now.variable) }
+    {
+        let above = self.greatest.checked_sub(self.least)?;
+        if above < self.rows.len().saturating_mul(NUMBERS_A_ROW) as u64 {
+            return Some(CloseColumn {
+                rows: self.rows,
+                variable: self.variable,
+                least: self.least,
+                span: above as usize + 1,
+            });
+        }
+        None
+    }
+}
+
+impl<'r> CloseColumn<'r> {
+    /// Returns the number of rows.
+    pub(crate) fn len(&self) -> usize
+        ensures value { result ≡ length self.now.rows.now.rows }
+    {
+        self.rows.len()
+    }
+
+    /// Returns the slot of the row at a place.
+    pub(crate) fn slot(&self, place: usize) -> usize
+        requires within { place < length self.now.rows.now.rows }
+        ensures value { result ≡ slot_at self.now.rows.now.rows self.now.variable self.now.least self.now.span place }
+        ensures within { result ≤ self.now.span }
+    {
+        match self.rows.get(place, self.variable) {
+            Some(number) => (number - self.least) as usize,
+            None => self.span,
+        }
+    }
+}
