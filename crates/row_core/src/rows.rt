@@ -211,7 +211,7 @@ impl Rows {
         restrict_cells(&mut self.cells, self.count, kept);
     }
 
-    /// Appends the rows of another list.
+    /// Appends the rows of another list. If there are no rows yet, none is copied.
     ///
     /// # Requires
     /// The other list has the same width.
@@ -224,6 +224,10 @@ impl Rows {
         ensures unchanged { OnErr result (self.new.rows ≡ self.old.rows) }
         ensures width { self.new.width ≡ self.old.width }
     {
+        if self.count == 0 {
+            *self = others;
+            return Ok(());
+        }
         self.extend(&others)
     }
 

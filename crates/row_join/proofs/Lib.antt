@@ -2,7 +2,6 @@ mod KeyTableLaws
 mod GroupLaws
 mod InsertLaws
 mod PlaceLaws
-mod ColumnLaws
 mod SlotLaws
 mod PairLaws
 pub mod NumberLaws

@@ -27,6 +27,17 @@ range_next n =
     let z : 0 + n ≡ n = omega arith in
     ap (range_with_len 0) s ∙ range_more n 0 ∙ ap (λ (k : ℕ). range_with_len 0 n ++ k ∷ []) z
 
+-- in two parts
+pub range_split : (m n a : ℕ) → range_with_len a (m + n) ≡ range_with_len a m ++ range_with_len (a + m) n
+range_split zero n a =
+    let e : 0 + n ≡ n = omega arith in
+    let f : a ≡ a + 0 = omega arith in
+    λ j. range_with_len (f j) (e j)
+range_split (suc m) n a =
+    let e : suc m + n ≡ suc (m + n) = omega arith in
+    let f : (a + 1) + m ≡ a + suc m = omega arith in
+    ap (range_with_len a) e ∙ ap (λ (l : List ℕ). a ∷ l) (range_split m n (a + 1) ∙ ap (λ (k : ℕ). range_with_len (a + 1) m ++ range_with_len k n) f)
+
 filter_one : (p : ℕ → Bool) (n : ℕ) → filter p (n ∷ []) ≡ place_if (p n) n
 filter_one p n = by (p n)
   where

@@ -1,60 +1,34 @@
 -- Rows in slots: the links of their places, the groups in one list, and the table that they make.
-use Rattle.std.proofs.Common.{◌≡◌, ◌≢◌, ℕ, suc, ◌+◌, ◌-◌, ◌<◌, ◌≤◌, true, false, not, cond, ◌&&◌, List, [], ◌∷◌, ◌++◌, length, map, filter, take, drop, get_or, set, replicate, nat_eq, Option, None, Some, is_some, refl, sym, ap, subst, ◌∙◌, arith, append_assoc, inl, inr}
-use Rattle.std.specs.List.{range_with_len}
-use Rattle.std.proofs.lemmas.Bool.Decides.{eqb_tells, leb_tells}
-use Rattle.std.proofs.lemmas.List.{get_or-replicate, get_or-set_same, get_or-set_other, get_or_past, get_or_default, get_or_append_left, get_or_at, length-append, length-drop, length-set, drop_at, drop-append-le, take-append-le, take_all}
+use Rattle.std.proofs.Common.{◌≡◌, ℕ, suc, ◌+◌, ◌-◌, ◌<◌, ◌≤◌, Bool, true, false, not, cond, ◌&&◌, ◌||◌, List, [], ◌∷◌, ◌++◌, length, map, filter, flat_map, take, drop, get_or, set, nat_eq, Option, None, Some, is_some, refl, sym, ap, subst, ◌∙◌, arith, append_assoc, inl, inr, if◌then◌else◌, true≢false}
+use Rattle.std.specs.List.{list_any, range_with_len}
+use Rattle.std.proofs.lemmas.Bool.Decides.{eqb_tells}
+use Rattle.std.proofs.lemmas.Grind.{flat_map-append}
+use Rattle.std.proofs.lemmas.List.{append-nil, drop_at, get_or-set_same, get_or-set_other, length-append, length-set, map-append, take_at}
+use Rattle.std.proofs.lemmas.List.Folds.{Any-from_list_any, list_any_at}
 use Rattle.std.proofs.lemmas.List.FromFn.{get_or-map-range_with_len, length-map-range_with_len}
-use Rattle.std.proofs.lemmas.List.Sums.{position_or_len_is}
 use Rattle.algebra_model.specs.Solution.{Solution}
 use Rattle.algebra_model.specs.Keys.{is_keyed}
 use Rattle.row_join.specs.KeyTable.{same_numbers}
-use Rattle.row_join.specs.Places.{IsTableOf, group_of, has_key, places_where}
-use Rattle.row_join.specs.Slots.{AreBetween, AreLinked, AreRising, IsFirst, cell_at, group_at, places_in, slot_at, slot_of, slot_table, start_of}
+use Rattle.row_join.specs.Places.{IsTableOf, PlaceTable, group_in, group_of, has_key, places_where}
+use Rattle.row_join.specs.Slots.{AreBetween, AreLinked, AreRising, IsFirst, cell_at, group_at, places_in, slot_at, slot_keys, slot_of, slot_table}
 use Rattle.row_join.proofs.DistinctLaws.{equal-if, unequal-if}
-use Rattle.row_join.proofs.GroupLaws.{group_in-at}
-use Rattle.row_join.proofs.KeyTableLaws.{is_same, not_same}
-use Rattle.row_join.proofs.PlaceLaws.{has_key-numbers, has_key-unkeyed}
+use Rattle.row_join.proofs.KeyTableLaws.{is_same, not_same, same_is}
+use Rattle.row_join.proofs.PlaceLaws.{has_key-numbers, has_key-unkeyed, range_next, range_split}
 
 -- the links
 
 module _ (slot : ℕ → ℕ) (count : ℕ) where
-  -- the places from i on, by the slot of i
-  places_in-step : (s i : ℕ) → i < count → places_in slot count s i ≡ cond (nat_eq (slot i) s) (i ∷ places_in slot count s (i + 1)) (places_in slot count s (i + 1))
-  places_in-step s i low =
+  -- the places from i on, by whether i is one of them
+  places_in-step : (s i : ℕ) (b : Bool) → i < count → nat_eq (slot i) s ≡ b → places_in slot count s i ≡ cond b (i ∷ places_in slot count s (i + 1)) (places_in slot count s (i + 1))
+  places_in-step s i b low is =
       let e : count - i ≡ suc (count - (i + 1)) = omega arith in
       ap (λ (k : ℕ). filter (λ j. nat_eq (slot j) s) (range_with_len i k)) e
+      ∙ ap (λ c. cond c (i ∷ places_in slot count s (i + 1)) (places_in slot count s (i + 1))) is
 
-  places_in-here : (s i : ℕ) → i < count → slot i ≡ s → places_in slot count s i ≡ i ∷ places_in slot count s (i + 1)
-  places_in-here s i low e =
-      places_in-step s i low ∙ ap (λ b. cond b (i ∷ places_in slot count s (i + 1)) (places_in slot count s (i + 1))) (equal-if (slot i) s e)
-
-  places_in-other : (s i : ℕ) → i < count → slot i ≢ s → places_in slot count s i ≡ places_in slot count s (i + 1)
-  places_in-other s i low n =
-      places_in-step s i low ∙ ap (λ b. cond b (i ∷ places_in slot count s (i + 1)) (places_in slot count s (i + 1))) (unequal-if (slot i) s n)
-
-  pub places_in-end : (s i : ℕ) → count ≤ i → places_in slot count s i ≡ []
-  places_in-end s i le =
-      let e : count - i ≡ 0 = omega arith in
-      ap (λ (k : ℕ). filter (λ j. nat_eq (slot j) s) (range_with_len i k)) e
-
-  pub places_in-all : (s : ℕ) → places_in slot count s 0 ≡ filter (λ i. nat_eq (slot i) s) (range_with_len 0 count)
+  places_in-all : (s : ℕ) → places_in slot count s 0 ≡ filter (λ i. nat_eq (slot i) s) (range_with_len 0 count)
   places_in-all s =
       let e : count - 0 ≡ count = omega arith in
       ap (λ (k : ℕ). filter (λ j. nat_eq (slot j) s) (range_with_len 0 k)) e
-
-  first-itself : (s i : ℕ) → i ≤ count → (i < count → slot i ≡ s) → IsFirst slot count s i i
-  first-itself s i le h = record { after = omega arith; low = le; here = h; skips = refl }
-
-  -- before the last place nothing is linked
-  pub linked-start : (n : ℕ) (first next : List ℕ) → first ≡ replicate n count → length next ≡ count → n ≡ length first → AreLinked slot count count first next
-  linked-start n first next e long size =
-      record {
-        long = long;
-        firsts = λ s low.
-            subst (λ (k : ℕ). IsFirst slot count s count k) (sym (ap (λ (l : List ℕ). get_or l s 0) e ∙ get_or-replicate n s count 0 (omega arith)))
-            (first-itself s count (omega arith) (λ h. absurd (omega arith)));
-        nexts = λ i h low. absurd (omega arith);
-      }
 
   -- one more place, the one before those that are linked
   pub linked-turn : (first next : List ℕ) (p t : ℕ) → p < count → t ≡ slot p → t < length first → AreLinked slot count (p + 1) first next
@@ -65,257 +39,228 @@ module _ (slot : ℕ → ℕ) (count : ℕ) where
         firsts = λ s h.
             elim (eqb_tells s t) [
               | inl e ↦
-                  subst (λ (k : ℕ). IsFirst slot count s p k) (sym (ap (λ (k : ℕ). get_or (set first t p) k 0) e.1 ∙ get_or-set_same first t p 0 inside))
-                  (first-itself s p (omega arith) (λ _. sym (e.1 ∙ is)))
+                  subst (IsFirst slot count s p) (sym (ap (λ (k : ℕ). get_or (set first t p) k 0) e.1 ∙ get_or-set_same first t p 0 inside))
+                  record { after = omega arith; low = omega arith; here = λ _. sym (e.1 ∙ is); skips = refl }
               | inr e ↦
                   let l = was.firsts s (let k = length-set first t p in omega arith) in
                   let after = l.after in
-                  subst (λ (k : ℕ). IsFirst slot count s p k) (sym (get_or-set_other first t s p 0 e.1))
-                  record {
-                    after = omega arith;
-                    low = l.low;
-                    here = l.here;
-                    skips = places_in-other s p low (λ k. e.1 (sym (is ∙ k))) ∙ l.skips;
-                  }
+                  subst (IsFirst slot count s p) (sym (get_or-set_other first t s p 0 e.1))
+                  record { after = omega arith; low = l.low; here = l.here; skips = places_in-step s p false low (unequal-if (slot p) s (λ k. e.1 (sym (is ∙ k)))) ∙ l.skips }
             ];
         nexts = λ i from below.
             elim (eqb_tells i p) [
               | inl e ↦
-                  let long = was.long in
-                  subst (λ (k : ℕ). IsFirst slot count (slot i) (i + 1) k) (sym (ap (λ (k : ℕ). get_or (set next p (get_or first t 0)) k 0) e.1 ∙ get_or-set_same next p (get_or first t 0) 0 (omega arith)))
-                  (subst (λ (k : ℕ). IsFirst slot count (slot k) (k + 1) (get_or first t 0)) (sym e.1)
+                  let inside' : p < length next = let k = was.long in omega arith in
+                  subst (λ (k : ℕ). IsFirst slot count (slot k) (k + 1) (get_or (set next p (get_or first t 0)) k 0)) (sym e.1)
+                  (subst (IsFirst slot count (slot p) (p + 1)) (sym (get_or-set_same next p (get_or first t 0) 0 inside'))
                   (subst (λ (k : ℕ). IsFirst slot count k (p + 1) (get_or first t 0)) is (was.firsts t inside)))
               | inr e ↦
                   let other = e.1 in
-                  subst (λ (k : ℕ). IsFirst slot count (slot i) (i + 1) k) (sym (get_or-set_other next p i (get_or first t 0) 0 e.1))
-                  (was.nexts i (omega (arith, other)) below)
+                  subst (IsFirst slot count (slot i) (i + 1)) (sym (get_or-set_other next p i (get_or first t 0) 0 e.1)) (was.nexts i (omega (arith, other)) below)
             ];
       }
 
-  -- one more place of a slot is added
+  -- one more place of a slot is added, and its link followed
   pub added-turn : (first next : List ℕ) (s p link : ℕ) (was now all : List ℕ) → AreLinked slot count 0 first next → p < count → slot p ≡ s → link ≡ get_or next p 0
       → was ++ places_in slot count s p ≡ all → now ≡ was ++ p ∷ []
-      → (now ++ places_in slot count s link ≡ all) × (p < link) × (link ≤ count) × (link < count → slot link ≡ s)
+      → (now ++ places_in slot count s link ≡ all) × (link ≤ count) × (link < count → slot link ≡ s) × (p < link)
   added-turn first next s p link was now all linked low at is h e =
-      let l = linked.nexts p (omega arith) low in
-      let after = l.after in
-      let below = l.low in (
-        e' ∙ append_assoc was (p ∷ []) (places_in slot count s link)
-            ∙ ap (λ (x : List ℕ). was ++ x) (ap (λ (x : List ℕ). p ∷ x) (sym (rest l.skips)) ∙ sym (places_in-here s p low at)) ∙ h,
+      let l : IsFirst slot count s (p + 1) link =
+      subst (IsFirst slot count s (p + 1)) (sym is) (subst (λ (k : ℕ). IsFirst slot count k (p + 1) (get_or next p 0)) at (linked.nexts p (omega arith) low)) in
+      let after = l.after in (
+        ap (λ (x : List ℕ). x ++ places_in slot count s link) e
+            ∙ append_assoc was (p ∷ []) (places_in slot count s link)
+            ∙ ap (λ (x : List ℕ). was ++ p ∷ x) (sym l.skips)
+            ∙ ap (λ (x : List ℕ). was ++ x) (sym (places_in-step s p true low (equal-if (slot p) s at)))
+            ∙ h,
+        l.low,
+        l.here,
         omega arith,
-        omega arith,
-        λ k. ap slot is ∙ l.here (omega arith) ∙ at,
       )
-    where
-      e' : now ++ places_in slot count s link ≡ (was ++ p ∷ []) ++ places_in slot count s link
-      e' = ap (λ (x : List ℕ). x ++ places_in slot count s link) e
-
-      rest : places_in slot count (slot p) (p + 1) ≡ places_in slot count (slot p) (get_or next p 0) → places_in slot count s (p + 1) ≡ places_in slot count s link
-      rest k = (λ j. places_in slot count (sym at j) (p + 1)) ∙ k ∙ (λ j. places_in slot count (at j) (sym is j))
 
 -- the groups in one list
 
--- the first n groups, with their starts
+-- the first n groups, one after another
+abbrev pub joined_groups : (ℕ → List ℕ) → ℕ → List ℕ
+joined_groups group n = flat_map group (range_with_len 0 n)
+
+-- the starts of the first n groups and the end of the last one, and all their places
 pub record AreGroups (group : ℕ → List ℕ) (n : ℕ) (starts places : List ℕ) : Type 0 where
-  pub long : length starts ≡ n
-  pub rising : AreRising starts places
-  pub each : (s : ℕ) → s < n → group_at starts places s ≡ group s
+  pub starts_are : starts ≡ map (λ s. length (joined_groups group s)) (range_with_len 0 (n + 1))
+  pub places_are : places ≡ joined_groups group n
 
-pub start-past : (starts places : List ℕ) (s : ℕ) → length starts ≤ s → start_of starts places s ≡ length places
-start-past starts places s le = get_or_past starts s (length places) le
+module _ (group : ℕ → List ℕ) where
+  joined-more : (n : ℕ) → joined_groups group (n + 1) ≡ joined_groups group n ++ group n
+  joined-more n =
+      ap (flat_map group) (range_next n) ∙ flat_map-append group (range_with_len 0 n) (n ∷ []) ∙ ap (λ (x : List ℕ). joined_groups group n ++ x) (append-nil (group n))
 
-pub start-inside : (starts places : List ℕ) → AreRising starts places → (s : ℕ) → start_of starts places s ≤ length places
-start-inside starts places rising s =
-    let h = rising s (s + length starts) (omega arith) in
-    let e = start-past starts places (s + length starts) (omega arith) in
-    omega arith
+  joined-split : (s t : ℕ) → s ≤ t → joined_groups group t ≡ joined_groups group s ++ flat_map group (range_with_len s (t - s))
+  joined-split s t le =
+      let e : t ≡ s + (t - s) = omega arith in
+      let z : 0 + s ≡ s = omega arith in
+      ap (joined_groups group) e ∙ ap (flat_map group) (range_split s (t - s) 0)
+      ∙ flat_map-append group (range_with_len 0 s) (range_with_len (0 + s) (t - s))
+      ∙ ap (λ (k : ℕ). joined_groups group s ++ flat_map group (range_with_len k (t - s))) z
 
-pub groups-start : (group : ℕ → List ℕ) → AreGroups group 0 [] []
-groups-start group = record { long = refl; rising = λ s t le. omega arith; each = λ s low. absurd (omega arith) }
-
-module _ (group : ℕ → List ℕ) (n : ℕ) (starts places : List ℕ) (was : AreGroups group n starts places) where
-  abbrev starts' : List ℕ
-  starts' = starts ++ length places ∷ []
-
-  abbrev places' : List ℕ
-  places' = places ++ group n
-
-  longer : length places' ≡ length places + length (group n)
-  longer = length-append places (group n)
-
-  -- the old starts, and that of the new group
-  old : (s : ℕ) → s ≤ n → start_of starts' places' s ≡ start_of starts places s
-  old s le =
-      elim (eqb_tells s n) [
-        | inl e ↦
-            let long = was.long in
-            let k = e.1 in
-            get_or_at starts (length places) [] (length places') s (omega arith) ∙ sym (start-past starts places s (omega arith))
-        | inr e ↦
-            let other = e.1 in
-            let low : s < length starts = let long = was.long in omega (arith, other) in
-            get_or_append_left starts (length places ∷ []) (length places') s low ∙ get_or_default starts s (length places') (length places) low
-      ]
-
-  new : (s : ℕ) → n < s → start_of starts' places' s ≡ length places'
-  new s low = start-past starts' places' s (let e = length-append starts (length places ∷ []) in let long = was.long in omega arith)
-
-  pub groups-turn : AreGroups group (n + 1) starts' places'
-  groups-turn =
+  pub groups-turn : (n : ℕ) (starts places starts' places' : List ℕ) → AreGroups group n starts places → places' ≡ places ++ group n → starts' ≡ starts ++ length places' ∷ []
+      → AreGroups group (n + 1) starts' places'
+  groups-turn n starts places starts' places' was more start =
+      let all : places' ≡ joined_groups group (n + 1) = more ∙ ap (λ (x : List ℕ). x ++ group n) was.places_are ∙ sym (joined-more n) in
+      let size = λ (s : ℕ). length (joined_groups group s) in
       record {
-        long = let e = length-append starts (length places ∷ []) in let long = was.long in omega arith;
-        rising = rising;
-        each = each;
+        starts_are = start ∙ (λ j. was.starts_are j ++ length (all j) ∷ []) ∙ sym (ap (map size) (range_next (n + 1)) ∙ map-append size (range_with_len 0 (n + 1)) ((n + 1) ∷ []));
+        places_are = all;
       }
-    where
-      rising : AreRising starts' places'
-      rising s t le =
-          elim (leb_tells t n) [
-            | inl h ↦
-                let below = h.1 in
-                let a = old s (omega arith) in
-                let b = old t h.1 in
-                let k = was.rising s t le in
-                omega arith
-            | inr h ↦
-                let b = new t h.1 in
-                elim (leb_tells s n) [
-                  | inl k ↦
-                      let a = old s k.1 in
-                      let i = start-inside starts places was.rising s in
-                      omega (arith, longer)
-                  | inr k ↦ let a = new s k.1 in omega arith
-                ]
-          ]
 
-      each : (s : ℕ) → s < n + 1 → group_at starts' places' s ≡ group s
-      each s low =
-          elim (eqb_tells s n) [
-            | inl e ↦
-                let k = e.1 in
-                let long = was.long in
-                let a : start_of starts' places' s ≡ length places = old s (omega arith) ∙ start-past starts places s (omega arith) in
-                let b : start_of starts' places' (s + 1) ≡ length places' = new (s + 1) (omega arith) in
-                (λ j. take (b j - a j) (drop (a j) places'))
-                ∙ ap (take (length places' - length places)) (drop_at places (group n) (length places) refl)
-                ∙ take_all (length places' - length places) (group n) (omega (arith, longer))
-                ∙ ap group (sym e.1)
-            | inr e ↦
-                let other = e.1 in
-                let a = start-inside starts places was.rising s in
-                let b = start-inside starts places was.rising (s + 1) in
-                let d = length-drop (start_of starts places s) places in
-                (λ j. take (old (s + 1) (omega (arith, other)) j - old s (omega arith) j) (drop (old s (omega arith) j) places'))
-                ∙ ap (take (start_of starts places (s + 1) - start_of starts places s)) (drop-append-le (start_of starts places s) places (group n) a)
-                ∙ take-append-le (start_of starts places (s + 1) - start_of starts places s) (drop (start_of starts places s) places) (group n) (omega arith)
-                ∙ was.each s (omega (arith, other))
-          ]
+  module _ (n : ℕ) (starts places : List ℕ) (are : AreGroups group n starts places) where
+    start : (s : ℕ) → s ≤ n → get_or starts s 0 ≡ length (joined_groups group s)
+    start s le =
+        ap (λ (l : List ℕ). get_or l s 0) are.starts_are
+        ∙ get_or-map-range_with_len (λ s. length (joined_groups group s)) 0 (n + 1) s s 0 (omega arith) (omega arith)
+
+    next_start : (s : ℕ) → s < n → get_or starts (s + 1) 0 ≡ get_or starts s 0 + length (group s)
+    next_start s low =
+        let a = start s (omega arith) in
+        let b = start (s + 1) (omega arith) in
+        let e = ap length (joined-more s) ∙ length-append (joined_groups group s) (group s) in
+        omega arith
+
+    pub group-is : (s : ℕ) → s < n → group_at starts places s ≡ group s
+    group-is s low =
+        let e : n - s ≡ suc (n - (s + 1)) = omega arith in
+        let rest : List ℕ = flat_map group (range_with_len (s + 1) (n - (s + 1))) in
+        let all : places ≡ joined_groups group s ++ (group s ++ rest) =
+        are.places_are ∙ joined-split s n (omega arith) ∙ ap (λ (k : ℕ). joined_groups group s ++ flat_map group (range_with_len s k)) e in
+        let size = next_start s low in
+        (λ j. take (get_or starts (s + 1) 0 - get_or starts s 0) (drop (get_or starts s 0) (all j)))
+        ∙ ap (take (get_or starts (s + 1) 0 - get_or starts s 0)) (drop_at (joined_groups group s) (group s ++ rest) (get_or starts s 0) (sym (start s (omega arith))))
+        ∙ take_at (group s) rest (get_or starts (s + 1) 0 - get_or starts s 0) (omega arith)
+
+    pub groups-rising : AreRising starts places
+    groups-rising s low =
+        let count : length starts ≡ n + 1 = ap length are.starts_are ∙ length-map-range_with_len (λ s. length (joined_groups group s)) 0 (n + 1) in
+        let size = next_start s (omega arith) in
+        let b = start (s + 1) (omega arith) in
+        let e = ap length (are.places_are ∙ joined-split (s + 1) n (omega arith)) ∙ length-append (joined_groups group (s + 1)) (flat_map group (range_with_len (s + 1) (n - (s + 1)))) in
+        (omega arith, omega arith)
 
 -- the table
 
-module _ (least span : ℕ) (starts places : List ℕ) where
-  -- numbers whose place among the keys is p, or that are no key if p is the number of keys
-  found-at : (numbers : List ℕ) (p : ℕ) → p ≤ span → ((k : ℕ) → k < p → numbers ≢ (least + k) ∷ []) → (p < span → numbers ≡ (least + p) ∷ [])
-      → group_of (slot_table least span starts places).keyed numbers ≡ get_or (map (group_at starts places) (range_with_len 0 span)) p []
-  found-at numbers p le before here =
-      group_in-at (map (λ (n : ℕ). n ∷ []) (range_with_len least span)) (map (group_at starts places) (range_with_len 0 span)) numbers (long ∙ sym (length-map-range_with_len (group_at starts places) 0 span))
-      ∙ ap (λ (k : ℕ). get_or (map (group_at starts places) (range_with_len 0 span)) k [])
-      (position_or_len_is (same_numbers numbers) (map (λ (n : ℕ). n ∷ []) (range_with_len least span)) p [] (omega (arith, long))
-      (λ k h. ap (same_numbers numbers) (key k (omega arith)) ∙ not_same numbers ((least + k) ∷ []) (before k h))
-      (λ h. ap (same_numbers numbers) (key p (omega (arith, long))) ∙ is_same numbers ((least + p) ∷ []) (here (omega (arith, long)))))
-    where
-      long : length (map (λ (n : ℕ). n ∷ []) (range_with_len least span)) ≡ span
-      long = length-map-range_with_len (λ n. n ∷ []) least span
+-- a group that is made of its key
+group_in-map : (made : List ℕ → List ℕ) (keys : List (List ℕ)) (numbers : List ℕ) → group_in keys (map made keys) numbers ≡ (if list_any (same_numbers numbers) keys then made numbers else [])
+group_in-map made [] numbers = refl
+group_in-map made (k ∷ keys) numbers = by (same_numbers numbers k) refl (group_in-map made keys numbers)
+  where
+    by : (b : Bool) → same_numbers numbers k ≡ b → group_in keys (map made keys) numbers ≡ (if list_any (same_numbers numbers) keys then made numbers else [])
+        → (if b then made k else group_in keys (map made keys) numbers) ≡ (if b || list_any (same_numbers numbers) keys then made numbers else [])
+    by true e rest = ap made (sym (same_is numbers k e))
+    by false e rest = rest
 
-      key : (k : ℕ) → k < span → get_or (map (λ (n : ℕ). n ∷ []) (range_with_len least span)) k [] ≡ (least + k) ∷ []
-      key k low = get_or-map-range_with_len (λ n. n ∷ []) least span k (least + k) [] low refl
+-- the numbers are one number, which has a slot
+abbrev pub HasSlot : ℕ → ℕ → List ℕ → Type 0
+HasSlot least span numbers = (length numbers ≡ 1) × (least ≤ get_or numbers 0 0) × (get_or numbers 0 0 < least + span)
 
-  pub found-inside : (n : ℕ) → least ≤ n → n < least + span → group_of (slot_table least span starts places).keyed (n ∷ []) ≡ group_at starts places (n - least)
-  found-inside n from low =
-      let here : n ≡ least + (n - least) = omega arith in
-      found-at (n ∷ []) (n - least) (omega arith)
-      (λ k h e. let m : n ≡ least + k = ap (λ (l : List ℕ). get_or l 0 0) e in absurd (omega arith))
-      (λ h. ap (λ (k : ℕ). k ∷ []) here)
-      ∙ get_or-map-range_with_len (group_at starts places) 0 span (n - least) (n - least) [] (omega arith) (omega arith)
+pub one_number : (numbers : List ℕ) → length numbers ≡ 1 → numbers ≡ get_or numbers 0 0 ∷ []
+one_number [] e = absurd (omega arith)
+one_number (n ∷ []) e = refl
+one_number (n ∷ m ∷ numbers) e = absurd (omega arith)
 
-  pub found-none : (numbers : List ℕ) → ((k : ℕ) → k < span → numbers ≢ (least + k) ∷ []) → group_of (slot_table least span starts places).keyed numbers ≡ []
-  found-none numbers none =
-      let long = length-map-range_with_len (group_at starts places) 0 span in
-      found-at numbers span (omega arith) none (λ h. absurd (omega arith))
-      ∙ get_or_past (map (group_at starts places) (range_with_len 0 span)) span [] (omega arith)
+module _ (least span : ℕ) (numbers : List ℕ) where
+  key-of : list_any (same_numbers numbers) (slot_keys least span) ≡ true → HasSlot least span numbers
+  key-of e =
+      let a = Any-from_list_any (same_numbers numbers) (slot_keys least span) e in
+      let count = length-map-range_with_len (λ (n : ℕ). n ∷ []) least span in
+      let low : a.0 < span = let h = a.2 in omega arith in
+      let is = same_is numbers a.1 a.4 ∙ sym a.3 ∙ get_or-map-range_with_len (λ n. n ∷ []) least span a.0 (least + a.0) a.1 low refl in
+      let n : get_or numbers 0 0 ≡ least + a.0 = ap (λ (l : List ℕ). get_or l 0 0) is in
+      (ap length is, omega arith, omega arith)
 
--- a key that is no number of a slot
-pub not_key-outside : (least span n : ℕ) → (least ≤ n → least + span ≤ n) → (k : ℕ) → k < span → n ∷ [] ≢ (least + k) ∷ []
-not_key-outside least span n out k low e =
-    let m : n ≡ least + k = ap (λ (l : List ℕ). get_or l 0 0) e in
-    let h = out (omega arith) in
-    omega arith
+  key-in : HasSlot least span numbers → list_any (same_numbers numbers) (slot_keys least span) ≡ true
+  key-in has =
+      let n = get_or numbers 0 0 in
+      let from = has.1 in
+      let low = has.2 in
+      let count = length-map-range_with_len (λ (n : ℕ). n ∷ []) least span in
+      let e : least + (n - least) ≡ n = omega arith in
+      list_any_at (same_numbers numbers) (slot_keys least span) (n - least) [] (omega arith)
+      (is_same numbers (get_or (slot_keys least span) (n - least) []) (one_number numbers has.0 ∙ sym (get_or-map-range_with_len (λ n. n ∷ []) least span (n - least) n [] (omega arith) e)))
 
-pub not_key-others : (least span : ℕ) (numbers : List ℕ) → length numbers ≢ 1 → (k : ℕ) → k < span → numbers ≢ (least + k) ∷ []
-not_key-others least span numbers other k low e = other (ap length e)
+  -- what a table of these slots has under the numbers
+  module _ (starts places : List ℕ) (table : PlaceTable) (is : slot_table least span starts places ≡ table) where
+    looked_up : (b : Bool) → list_any (same_numbers numbers) (slot_keys least span) ≡ b
+        → (if b then group_at starts places (get_or numbers 0 0 - least) else []) ≡ group_of table.keyed numbers
+    looked_up b e =
+        let made = λ (key : List ℕ). group_at starts places (get_or key 0 0 - least) in
+        sym (group_in-map made (slot_keys least span) numbers ∙ ap (λ (b : Bool). if b then made numbers else []) e) ∙ ap (λ (t : PlaceTable). group_of t.keyed numbers) is
+
+    pub found : HasSlot least span numbers → group_at starts places (get_or numbers 0 0 - least) ≡ group_of table.keyed numbers
+    found has = looked_up true (key-in has)
+
+    pub not_found : (HasSlot least span numbers → ⊥) → [] ≡ group_of table.keyed numbers
+    not_found none = by (list_any (same_numbers numbers) (slot_keys least span)) refl
+      where
+        by : (b : Bool) → list_any (same_numbers numbers) (slot_keys least span) ≡ b → [] ≡ group_of table.keyed numbers
+        by true e = absurd (none (key-of e))
+        by false e = looked_up false e
 
 filter_none : (xs : List ℕ) → filter (λ i. false) xs ≡ []
 filter_none [] = refl
 filter_none (x ∷ xs) = filter_none xs
 
 module _ (rows : List (Solution ℕ)) (v least span : ℕ) (between : AreBetween rows v least (least + span)) where
+  -- what holds of an unbound cell, and of each number that has a slot
+  by_cell : (P : Option ℕ → Type 0) → P None → ((m : ℕ) → least ≤ m → m < least + span → P (Some m)) → (i : ℕ) → P (cell_at rows v i)
+  by_cell P none some i = by (cell_at rows v i) (between i)
+    where
+      by : (x : Option ℕ) → ((m : ℕ) → x ≡ Some m → (least ≤ m) × (m < least + span)) → P x
+      by None h = none
+      by (Some m) h = some m (h m refl).0 (h m refl).1
+
   -- a row is in the slot of a number exactly if it has its key
   slot-key : (n : ℕ) → least ≤ n → n < least + span → (i : ℕ) → nat_eq (slot_at rows v least span i) (n - least) ≡ has_key (v ∷ []) (n ∷ []) (get_or rows i [])
-  slot-key n from low i = by (cell_at rows v i) (between i)
-    where
-      by : (x : Option ℕ) → ((m : ℕ) → x ≡ Some m → (least ≤ m) × (m < least + span)) → nat_eq (slot_of least span x) (n - least) ≡ has_key (0 ∷ []) (n ∷ []) (x ∷ [])
-      by None h = unequal-if span (n - least) (λ e. omega arith)
-      by (Some m) h =
-          let k = (h m refl).0 in
-          elim (eqb_tells n m) [
-            | inl t ↦ let e = t.1 in equal-if (m - least) (n - least) (omega arith) ∙ sym (ap (λ b. b && true) (equal-if n m e))
-            | inr t ↦ let e = t.1 in unequal-if (m - least) (n - least) (λ z. omega (arith, e)) ∙ sym (ap (λ b. b && true) (unequal-if n m e))
-          ]
+  slot-key n from low =
+      by_cell (λ x. nat_eq (slot_of least span x) (n - least) ≡ has_key (0 ∷ []) (n ∷ []) (x ∷ []))
+      (unequal-if span (n - least) (λ e. omega arith))
+      (λ m a b. elim (eqb_tells n m) [
+        | inl t ↦ let e = t.1 in equal-if (m - least) (n - least) (omega arith) ∙ sym (ap (λ c. c && true) (equal-if n m e))
+        | inr t ↦ let e = t.1 in unequal-if (m - least) (n - least) (λ z. omega (arith, e)) ∙ sym (ap (λ c. c && true) (unequal-if n m e))
+      ])
 
   -- it is in the last slot exactly if it has no key
   slot-open : (i : ℕ) → nat_eq (slot_at rows v least span i) span ≡ not (is_keyed (v ∷ []) (get_or rows i []))
-  slot-open i = by (cell_at rows v i) (between i)
-    where
-      by : (x : Option ℕ) → ((m : ℕ) → x ≡ Some m → (least ≤ m) × (m < least + span)) → nat_eq (slot_of least span x) span ≡ not (is_some x && true)
-      by None h = equal-if span span refl
-      by (Some m) h = let k = h m refl in let low = k.1 in unequal-if (m - least) span (λ e. omega (arith, k.0))
+  slot-open =
+      by_cell (λ x. nat_eq (slot_of least span x) span ≡ not (is_some x && true)) (equal-if span span refl) (λ m a b. unequal-if (m - least) span (λ e. omega arith))
 
   -- no row has any other key
-  no_row : (numbers : List ℕ) → ((k : ℕ) → k < span → numbers ≢ (least + k) ∷ []) → [] ≡ places_where (has_key (v ∷ []) numbers) rows
-  no_row numbers none = sym ((λ j. filter (λ i. by (cell_at rows v i) (between i) j) (range_with_len 0 (length rows))) ∙ filter_none (range_with_len 0 (length rows)))
+  no_row : (numbers : List ℕ) → (HasSlot least span numbers → ⊥) → [] ≡ places_where (has_key (v ∷ []) numbers) rows
+  no_row numbers none = sym ((λ j. filter (λ i. never i j) (range_with_len 0 (length rows))) ∙ filter_none (range_with_len 0 (length rows)))
     where
-      by : (x : Option ℕ) → ((m : ℕ) → x ≡ Some m → (least ≤ m) × (m < least + span)) → has_key (0 ∷ []) numbers (x ∷ []) ≡ false
-      by None h = has_key-unkeyed (0 ∷ []) (None ∷ []) refl numbers
-      by (Some m) h =
-          let k = h m refl in
-          let from = k.0 in
-          let low = k.1 in
-          let z : m ≡ least + (m - least) = omega arith in
-          has_key-numbers (0 ∷ []) (m ∷ []) (Some m ∷ []) refl numbers
-          ∙ not_same numbers (m ∷ []) (λ e. none (m - least) (omega arith) (e ∙ ap (λ (k : ℕ). k ∷ []) z))
+      never : (i : ℕ) → has_key (v ∷ []) numbers (get_or rows i []) ≡ false
+      never =
+          by_cell (λ x. has_key (0 ∷ []) numbers (x ∷ []) ≡ false) (has_key-unkeyed (0 ∷ []) (None ∷ []) refl numbers)
+          (λ m a b. has_key-numbers (0 ∷ []) (m ∷ []) (Some m ∷ []) refl numbers ∙ not_same numbers (m ∷ [])
+          (λ e. let n : get_or numbers 0 0 ≡ m = ap (λ (l : List ℕ). get_or l 0 0) e in none (ap length e, omega arith, omega arith)))
 
   -- the table of the rows
   pub slot_table-is : (starts places : List ℕ) → AreGroups (λ s. places_in (slot_at rows v least span) (length rows) s 0) (span + 1) starts places
       → IsTableOf (v ∷ []) rows (slot_table least span starts places)
   slot_table-is starts places groups =
-      (keyed, groups.each span (omega arith) ∙ places_in-all (slot_at rows v least span) (length rows) span ∙ (λ j. filter (λ i. slot-open i j) (range_with_len 0 (length rows))))
+      (λ numbers. keyed numbers (list_any (same_numbers numbers) (slot_keys least span)) refl, in_slot span (omega arith) ∙ (λ j. filter (λ i. slot-open i j) (range_with_len 0 (length rows))))
     where
-      absent : (numbers : List ℕ) → ((k : ℕ) → k < span → numbers ≢ (least + k) ∷ []) → group_of (slot_table least span starts places).keyed numbers ≡ places_where (has_key (v ∷ []) numbers) rows
-      absent numbers none = found-none least span starts places numbers none ∙ no_row numbers none
+      in_slot : (s : ℕ) → s < span + 1 → group_at starts places s ≡ filter (λ i. nat_eq (slot_at rows v least span i) s) (range_with_len 0 (length rows))
+      in_slot s low =
+          group-is (λ s. places_in (slot_at rows v least span) (length rows) s 0) (span + 1) starts places groups s low ∙ places_in-all (slot_at rows v least span) (length rows) s
 
-      keyed : (numbers : List ℕ) → group_of (slot_table least span starts places).keyed numbers ≡ places_where (has_key (v ∷ []) numbers) rows
-      keyed [] = absent [] (not_key-others least span [] (λ e. absurd (omega arith)))
-      keyed (n ∷ m ∷ numbers) = absent (n ∷ m ∷ numbers) (not_key-others least span (n ∷ m ∷ numbers) (λ e. absurd (omega arith)))
-      keyed (n ∷ []) =
-          elim (leb_tells least n) [
-            | inr below ↦ let b = below.1 in absent (n ∷ []) (not_key-outside least span n (λ h. absurd (omega arith)))
-            | inl from ↦
-                elim (leb_tells (least + span) n) [
-                  | inl past ↦ absent (n ∷ []) (not_key-outside least span n (λ _. past.1))
-                  | inr low ↦
-                      found-inside least span starts places n from.1 low.1
-                      ∙ groups.each (n - least) (let a = from.1 in let b = low.1 in omega arith)
-                      ∙ places_in-all (slot_at rows v least span) (length rows) (n - least)
-                      ∙ (λ j. filter (λ i. slot-key n from.1 low.1 i j) (range_with_len 0 (length rows)))
-                ]
-          ]
+      keyed : (numbers : List ℕ) (b : Bool) → list_any (same_numbers numbers) (slot_keys least span) ≡ b
+          → group_of (slot_table least span starts places).keyed numbers ≡ places_where (has_key (v ∷ []) numbers) rows
+      keyed numbers true e =
+          let has = key-of least span numbers e in
+          let n = get_or numbers 0 0 in
+          let from = has.1 in
+          let low = has.2 in
+          sym (found least span numbers starts places _ refl has) ∙ in_slot (n - least) (omega arith)
+          ∙ (λ j. filter (λ i. slot-key n from low i j) (range_with_len 0 (length rows)))
+          ∙ ap (λ (l : List ℕ). places_where (has_key (v ∷ []) l) rows) (sym (one_number numbers has.0))
+      keyed numbers false e =
+          let none = λ (has : HasSlot least span numbers). true≢false (sym (key-in least span numbers has) ∙ e) in
+          sym (not_found least span numbers starts places _ refl none) ∙ no_row numbers none

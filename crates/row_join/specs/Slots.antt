@@ -39,25 +39,22 @@ pub record AreLinked (slot : ℕ → ℕ) (count from : ℕ) (first next : List 
   pub firsts : (s : ℕ) → s < length first → IsFirst slot count s from (get_or first s 0)
   pub nexts : (i : ℕ) → from ≤ i → i < count → IsFirst slot count (slot i) (i + 1) (get_or next i 0)
 
--- where the group of slot s starts in a list of places; a slot without a start has the end of the list
-abbrev pub start_of : List ℕ → List ℕ → ℕ → ℕ
-start_of starts places s = get_or starts s (length places)
-
 -- the group of slot s: the places from its start to the next start
 abbrev pub group_at : List ℕ → List ℕ → ℕ → List ℕ
-group_at starts places s =
-    take (start_of starts places (s + 1) - start_of starts places s) (drop (start_of starts places s) places)
+group_at starts places s = take (get_or starts (s + 1) 0 - get_or starts s 0) (drop (get_or starts s 0) places)
 
--- no slot starts after a later one, or after the end
+-- no group ends before it starts, or after the end of the places
 abbrev pub AreRising : List ℕ → List ℕ → Type 0
-AreRising starts places = (s t : ℕ) → s ≤ t → start_of starts places s ≤ start_of starts places t
+AreRising starts places =
+    (s : ℕ) → s + 1 < length starts → (get_or starts s 0 ≤ get_or starts (s + 1) 0) × (get_or starts (s + 1) 0 ≤ length places)
 
--- the table of places in slots: each slot but the last has the key of its number
+-- the keys of the slots but the last: one number each, from the least on
+abbrev pub slot_keys : ℕ → ℕ → List (List ℕ)
+slot_keys least span = map (λ (n : ℕ). n ∷ []) (range_with_len least span)
+
+-- the table of places in slots: the group of a key is in the slot of its number, and the last slot has the other places
 abbrev pub slot_table : ℕ → ℕ → List ℕ → List ℕ → PlaceTable
 slot_table least span starts places = record {
-  keyed = record {
-    keys = map (λ (n : ℕ). n ∷ []) (range_with_len least span);
-    groups = map (group_at starts places) (range_with_len 0 span);
-  };
+  keyed = record { keys = slot_keys least span; groups = map (λ key. group_at starts places (get_or key 0 0 - least)) (slot_keys least span) };
   apart = group_at starts places span;
 }

@@ -5,11 +5,12 @@ ghost use Rattle.row_join.specs.Slots.{AreLinked, places_in, slot_at};
 use crate::column::CloseColumn;
 use std::alloc::{AllocError, Global};
 
-/// For each slot of a column its first place, and for each place the next one in its slot. The number of rows marks the end.
+/// For each slot of a column its first place, and for each place the next one in its slot. The
+/// number of rows marks the end. A link takes four bytes.
 pub(crate) struct Chains<'r> {
     column: CloseColumn<'r>,
-    first: Vec<usize>,
-    next: Vec<usize>,
+    first: Vec<u32>,
+    next: Vec<u32>,
     ghost slots: { length first.items ≡ column.span + 1 },
     ghost linked: { AreLinked (slot_at column.rows.now.rows column.variable column.least column.span)
         (length column.rows.now.rows) 0 first.items next.items },
@@ -38,12 +39,13 @@ impl<'r> Chains<'r> {
             return Err(AllocError);
         };
         let count = column.len();
-        let mut first = vec![in alloc; count; slots]?;
-        let mut next = vec![in alloc; count; count]?;
+        let end = count as u32;
+        let mut first = vec![in alloc; end; slots]?;
+        let mut next = vec![in alloc; end; count]?;
         for place in (0..count).rev() {
             let slot = column.slot(place);
             next[place] = first[slot];
-            first[slot] = place;
+            first[slot] = place as u32;
         }
         Ok(Chains {
             column: *column,
@@ -69,13 +71,13 @@ impl<'r> Chains<'r> {
     pub(crate) fn add_to(&self, slot: usize, places: &mut Vec<usize>) -> Result<(), AllocError>
         requires within { slot < self.now.column.span + 1 }
         ensures added { OnOk result (places.new.items ≡ places.old.items
-            ++ places_in (slot_at self.now.column.rows.now.rows self.now.column.variable self.now.column.least self.now.column.span)
-            (length self.now.column.rows.now.rows) slot 0) }
+            ++ places_in (slot_at self.now.column.rows.now.rows self.now.column.variable
+            self.now.column.least self.now.column.span) (length self.now.column.rows.now.rows) slot 0) }
     {
-        let mut place = self.first[slot];
+        let mut place = self.first[slot] as usize;
         while place < self.next.len() {
             places.push(place)?;
-            place = self.next[place];
+            place = self.next[place] as usize;
         }
         Ok(())
     }

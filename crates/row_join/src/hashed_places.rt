@@ -64,7 +64,8 @@ impl HashedPlaces {
         Ok(HashedPlaces { groups, apart })
     }
 
-    /// Returns the places of the rows that bind the key's variables to these numbers, in ascending order.
+    /// Returns the places of the rows that bind the key's variables to these numbers, in ascending
+    /// order.
     pub(crate) fn places(&self, numbers: &[u64]) -> &[usize]
         ensures value { result.now ≡ group_of self.now.keyed numbers.now }
     {

@@ -1,4 +1,5 @@
-//! The hash of a key, and its bucket. The input chooses the numbers of keys, so their hash has secret keys.
+//! The hash of a key, and its bucket. The input chooses the numbers of keys, so their hash has
+//! secret keys.
 ghost use Rattle.std.specs.Prelude.{◌≡◌, ◌<◌};
 ghost use Rattle.row_join.specs.KeyTable.{bucket_of, hash_step, key_hash};
 

@@ -30,8 +30,8 @@ pub(crate) fn is_ever_bound(rows: &Rows, variable: usize) -> bool
     false
 }
 
-/// Returns the columns of a variable that some row of each side binds, and None for any other. A side whose rows do not bind
-/// it is all that is read, up to the first row of the left side that does.
+/// Returns the columns of a variable, if some row of each side binds it. If a side does not, only
+/// its column is read as a whole.
 fn candidate<'r>(
     left: &'r Rows,
     right: &'r Rows,

@@ -21,11 +21,11 @@
 //!
 //! Standard: SPARQL 1.1 Query Language, section 18.5.
 //!
-//! Reading order: `keyed` (over `numbered_places` with `chains` and `column`, for one variable whose numbers are close together,
-//! and over `hashed_places` with `groups`, `keys` and `hashing`, the hash table), `key_choice` (the variables of the key),
-//! `row_ref` (a row in its list), `right_side` (the keyed rows, and the candidates for a left row), `left_rows` (the loop
-//! over the left rows, in pieces), `merging` (the merges of a left row), `joins`, `left_joins`, `minus_operator`,
-//! `distinct_rows`.
+//! Reading order: `keyed` (over `numbered_places` with `chains` and `column`, for one variable whose numbers are close
+//! together, and over `hashed_places` with `groups`, `keys` and `hashing`, the hash table), `key_choice` (the variables
+//! of the key), `row_ref` (a row in its list), `right_side` (the keyed rows, and the candidates for a left row),
+//! `left_rows` (the loop over the left rows, in pieces), `merging` (the merges of a left row), `joins`, `left_joins`,
+//! `minus_operator`, `distinct_rows`.
 //!
 //! ```text
 //! join((?s: 1), (?s: 2) ; (?s: 1, ?o: 7), (?o: 9))

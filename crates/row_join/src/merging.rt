@@ -39,6 +39,9 @@ pub(crate) fn add_merges<T: RowTest>(
     let tried = right.tried(row, &mut buffers.numbers)?;
     let merged = &mut buffers.merged;
     let first = add_kept(alloc, test, row, right.rows, tried.first, merged, made)?;
+    if tried.second.is_empty() {
+        return Ok(first);
+    }
     let second = add_kept(alloc, test, row, right.rows, tried.second, merged, made)?;
     Ok(first && second)
 }

@@ -73,7 +73,7 @@ impl<'w, W: RowWork> Job for RowPieces<'w, W> {
 
 /// Returns the rows of all elements as a multiset. The elements are split into pieces as `how`
 /// says, and workers run the pieces. With one worker, or if one piece holds all elements, the
-/// caller runs them.
+/// caller runs them all at once.
 ///
 /// # Requires
 /// `how` keeps its limits.
@@ -95,13 +95,24 @@ pub fn over_pieces<R: Threads + Wait, W: RowWork + Sync, G: Gate + Sync>(
     ensures one_worker { HasOneWorker how.now → IfErr result (λ fault. fault ≡ Memory) }
 {
     let count = work.count();
-    let size = piece_size(count, how.rows);
+    let size = piece_size(count, rows_a_piece(count, how));
     let pieces = count.div_ceil(size) as u64;
     let job = RowPieces { work, size };
     match run_all(rt, alloc, how.workers, pieces, &job, gate)? {
         Outcome::All(outs) => Ok(join_pieces(alloc, work.row_width(), outs)?),
         Outcome::First { .. } => unreachable!(),
     }
+}
+
+/// Returns the number of elements that a piece should have. One worker takes all of them at once, so
+/// that their rows are not copied from pieces.
+fn rows_a_piece(count: usize, how: &How) -> usize
+    ensures least { how.now.rows ≤ result }
+{
+    if how.workers == 1 {
+        return how.rows.max(count);
+    }
+    how.rows
 }
 
 /// Returns the number of elements in a piece. It is `rows`, or more if that would make more than

@@ -22,6 +22,7 @@ pub returns-in_err-outs-clause-alone : goal.returns-in_err-outs-clause-alone
 returns-in_err-outs-clause-alone g c within =
     let long = c.count-count.ensures.value in
     let least = c.piece_size-size.ensures.least in
+    let more = c.rows_a_piece.ensures.least in
     let one = one-piece c.count-count.result c.piece_size-size.result c.div_ceil-pieces.result c.piece_size-size.ensures.some
     (omega arith) c.div_ceil-pieces.ensures in
     let one_worker = c.in_err-outs.ensures.alone one in

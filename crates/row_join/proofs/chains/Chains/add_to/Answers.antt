@@ -14,7 +14,7 @@ loop-place-preserved c =
     let long = chains.linked.long in
     let size = chains.next.ok.0 in
     let low : place < length rows = omega arith in
-    let turn = added-turn (slot_at rows column.variable column.least column.span) (length rows) chains.first.items chains.next.items c.args.slot place c.index-place-in-loop-place.result.now
+    let turn = added-turn (slot_at rows column.variable column.least column.span) (length rows) chains.first.items chains.next.items c.args.slot place c.index-in-loop-place.result.now
     c.loop-place.places.items c.push.new.self.items _ chains.linked low (was.here low)
-    (get_or_read chains.next.items place _ (omega arith) c.index-place-in-loop-place.ensures 0) was.added c.in_ok-push.ensures.items in
-    record { low = turn.2; here = turn.3; added = turn.0 }
+    (get_or_read chains.next.items place _ (omega arith) c.index-in-loop-place.ensures 0) was.added c.in_ok-push.ensures.items in
+    record { added = turn.0; low = turn.1; here = turn.2 }

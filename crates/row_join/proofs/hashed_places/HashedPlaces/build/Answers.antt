@@ -1,8 +1,8 @@
-use Rattle.std.proofs.Common.{ℕ, List, ◌++◌, nat_eq, not, sym, ap, ◌∙◌, true, false, length, get_or, []}
+use Rattle.std.proofs.Common.{◌≡◌, ℕ, List, ◌++◌, nat_eq, not, sym, ap, ◌∙◌, true, false, length, get_or, [], arith}
 use Rattle.std.proofs.lemmas.List.{append-nil}
 use Rattle.std.specs.Cmp.Lexicographic.{pointwise}
 use Rattle.algebra_model.specs.Keys.{is_keyed}
-use Rattle.row_join.specs.Places.{group_of, has_key, place_if}
+use Rattle.row_join.specs.Places.{group_of, has_key, place_if, places_below}
 use Rattle.row_join.proofs.PlaceLaws.{places-turn, has_key-numbers, has_key-unkeyed, read_wide}
 use Rattle.row_join.proofs.hashed_places.HashedPlaces.build.Goals as goal
 use Rattle.row_join.proofs.hashed_places.HashedPlaces.build.Goals.{then-branch+in_ok-add, else-branch+in_ok-push}
@@ -49,4 +49,17 @@ add-requires c =
     let read = c.in_ok-read_key.ensures in
     record {
       wide = ap length c.deref.ensures.value ∙ read_wide c.args.key.now (get_or c.args.rows.now.rows c.loop-place.place []) c.read_key.new.numbers.items (read.read c.if-branch.true) ∙ sym c.loop-place.invariant.wide;
+    }
+
+pub returns : goal.returns
+returns c =
+    let key = c.args.key.now in
+    let rows = c.args.rows.now.rows in
+    let was = c.loop-place.invariant in
+    let all : c.loop-place.place ≡ length rows = omega arith in
+    record {
+      table = (
+        λ f. was.keyed f ∙ ap (λ (n : ℕ). places_below n (has_key key f) rows) all,
+        was.apart ∙ ap (λ (n : ℕ). places_below n (λ μ. not (is_keyed key μ)) rows) all,
+      );
     }
