@@ -142,8 +142,15 @@ def spans(found):
 
 
 def other_run(name):
-    """Returns a paragraph on the run of a section, if it is another one than that of loading."""
-    return [] if heading(name) == heading("loading") else ["From another run, in which spq can be an earlier build:", "", heading(name), ""]
+    """Returns a paragraph on the run of a section, with what differs, if it is another one than that of loading."""
+    if heading(name) == heading("loading"):
+        return []
+    new = [it for it in facts(heading(name)) if it not in facts(heading("loading"))]
+    return [f"From another run, in which spq can be an earlier build ({', '.join(new)}):", ""]
+
+
+def facts(text):
+    return [it.rstrip(".") for line in text.splitlines() for it in line.split(", ")]
 
 
 def cost_memory():
