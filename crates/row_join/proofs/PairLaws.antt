@@ -1,12 +1,11 @@
 -- What one left row gives, place by place and as a multiset, and its numbers.
-use Rattle.std.proofs.Common.{◌≡◌, ℕ, ◌+◌, ◌<◌, Bool, true, false, not, cond, ◌&&◌, ◌||◌, List, [], ◌∷◌, ◌++◌, length, map, filter, flat_map, take, get_or, nat_eq, if◌then◌else◌, refl, sym, ap, subst, ◌∙◌, append_assoc}
-use Rattle.std.proofs.lemmas.List.{map-append, map_more}
+use Rattle.std.proofs.Common.{◌≡◌, ℕ, ◌+◌, ◌<◌, ◌≤◌, Bool, true, false, cond, List, [], ◌∷◌, ◌++◌, length, map, filter, flat_map, take, get_or, nat_eq, if◌then◌else◌, refl, sym, ap, subst, ◌∙◌, append_assoc}
+use Rattle.std.proofs.lemmas.List.{take_all, map-append, map_more}
 use Rattle.std.proofs.lemmas.List.Elements.{filter-append}
-use Rattle.std.proofs.lemmas.List.Folds.{list_all-append}
 use Rattle.std.proofs.lemmas.List.Sorted.{IsPermutation-refl, IsPermutation-append}
 use Rattle.algebra_model.specs.Bag.{IsSameBag}
 use Rattle.algebra_model.specs.Solution.{Solution, is_compatible, merge}
-use Rattle.algebra_model.specs.Operators.{merges, share}
+use Rattle.algebra_model.specs.Operators.{merges}
 use Rattle.algebra_model.specs.Solve.{alone, left_row}
 use Rattle.algebra_model.specs.Keys.{may_meet}
 use Rattle.algebra_model.proofs.CongruenceLaws.{filter-IsSameBag}
@@ -31,11 +30,6 @@ merges-more μ ν rows b e =
     by true = refl
     by false = refl
 
-pub merges-append : (μ : Solution ℕ) (rows more : List (Solution ℕ)) → merges nat_eq μ (rows ++ more) ≡ merges nat_eq μ rows ++ merges nat_eq μ more
-merges-append μ rows more =
-    ap (map (merge μ)) (filter-append (is_compatible nat_eq μ) rows more)
-    ∙ map-append (merge μ) (filter (is_compatible nat_eq μ) rows) (filter (is_compatible nat_eq μ) more)
-
 -- the left rows that pass a test, each as a list
 pub rows_if : (p : Solution ℕ → Bool) (A : List (Solution ℕ)) → flat_map (λ μ. row_if (p μ) μ) A ≡ filter p A
 rows_if p [] = refl
@@ -49,45 +43,25 @@ appended : (old : List (Solution ℕ)) (a b : List (Solution ℕ)) → IsSameBag
 appended old a b h = IsPermutation-append old old a b (IsPermutation-refl old) h
 
 -- the candidates for a left row are sufficient
-module _ (key : List ℕ) (μ : Solution ℕ) (rows : List (Solution ℕ)) (first second : List ℕ)
-    (tried : IsSameBag (rows_at rows (first ++ second)) (filter (may_meet nat_eq key μ) rows)) where
-  two : rows_at rows (first ++ second) ≡ rows_at rows first ++ rows_at rows second
-  two = map-append (λ (i : ℕ). get_or rows i []) first second
-
-  tried_two : IsSameBag (rows_at rows first ++ rows_at rows second) (filter (may_meet nat_eq key μ) rows)
-  tried_two = subst (λ (l : List (Solution ℕ)). IsSameBag l (filter (may_meet nat_eq key μ) rows)) two tried
-
-  abbrev both : List (Solution ℕ)
-  both = rows_at rows first ++ rows_at rows second
-
+module _ (key : List ℕ) (μ : Solution ℕ) (rows : List (Solution ℕ)) (places : List ℕ) (tried : IsSameBag (rows_at rows places) (filter (may_meet nat_eq key μ) rows)) where
   -- the merges that a condition keeps
-  pub kept-tried : (keeps : Solution ℕ → Bool) (old half made : List (Solution ℕ))
-      → half ≡ old ++ filter keeps (merges nat_eq μ (rows_at rows first)) → made ≡ half ++ filter keeps (merges nat_eq μ (rows_at rows second))
-      → IsSameBag made (old ++ filter keeps (merges nat_eq μ rows))
-  kept-tried keeps old half made e f =
-      subst (λ (l : List (Solution ℕ)). IsSameBag l (old ++ filter keeps (merges nat_eq μ rows))) (sym all)
-      (appended old (filter keeps (merges nat_eq μ both)) (filter keeps (merges nat_eq μ rows))
-      (filter-IsSameBag nat_eq Decides-eqb keeps (merges nat_eq μ both) (merges nat_eq μ rows)
-      (merges-tried nat_eq μ (may_meet nat_eq key μ) (may_meet-covers nat_eq key μ) both rows tried_two Decides-eqb)))
-    where
-      kept : filter keeps (merges nat_eq μ both) ≡ filter keeps (merges nat_eq μ (rows_at rows first)) ++ filter keeps (merges nat_eq μ (rows_at rows second))
-      kept = ap (filter keeps) (merges-append μ (rows_at rows first) (rows_at rows second)) ∙ filter-append keeps (merges nat_eq μ (rows_at rows first)) (merges nat_eq μ (rows_at rows second))
+  pub kept-tried : (n : ℕ) → length places ≤ n → (keeps : Solution ℕ → Bool) (old made : List (Solution ℕ))
+      → made ≡ old ++ filter keeps (merges nat_eq μ (rows_at rows (take n places))) → IsSameBag made (old ++ filter keeps (merges nat_eq μ rows))
+  kept-tried n all keeps old made e =
+      subst (λ (l : List (Solution ℕ)). IsSameBag l (old ++ filter keeps (merges nat_eq μ rows)))
+      (sym (e ∙ ap (λ (ps : List ℕ). old ++ filter keeps (merges nat_eq μ (rows_at rows ps))) (take_all n places all)))
+      (appended old (filter keeps (merges nat_eq μ (rows_at rows places))) (filter keeps (merges nat_eq μ rows))
+      (filter-IsSameBag nat_eq Decides-eqb keeps (merges nat_eq μ (rows_at rows places)) (merges nat_eq μ rows)
+      (merges-tried nat_eq μ (may_meet nat_eq key μ) (may_meet-covers nat_eq key μ) (rows_at rows places) rows tried Decides-eqb)))
 
-      all : made ≡ old ++ filter keeps (merges nat_eq μ both)
-      all = f ∙ ap (λ (l : List (Solution ℕ)). l ++ filter keeps (merges nat_eq μ (rows_at rows second))) e
-          ∙ append_assoc old (filter keeps (merges nat_eq μ (rows_at rows first))) (filter keeps (merges nat_eq μ (rows_at rows second)))
-          ∙ ap (λ (l : List (Solution ℕ)). old ++ l) (sym kept)
+  -- a left row that gives no merge with them, and one that none of them removes
+  pub tried-alone : (n : ℕ) → length places ≤ n → (keeps : Solution ℕ → Bool) (b : Bool) → b ≡ alone nat_eq keeps (rows_at rows (take n places)) μ → b ≡ alone nat_eq keeps rows μ
+  tried-alone n all keeps b e =
+      e ∙ ap (λ (ps : List ℕ). alone nat_eq keeps (rows_at rows ps) μ) (take_all n places all)
+      ∙ alone-tried nat_eq μ (may_meet nat_eq key μ) (may_meet-covers nat_eq key μ) (rows_at rows places) rows tried keeps
 
-  -- a left row of which neither list gives a merge
-  pub alone_both : (keeps : Solution ℕ → Bool) → (alone nat_eq keeps (rows_at rows first) μ && alone nat_eq keeps (rows_at rows second) μ) ≡ alone nat_eq keeps rows μ
-  alone_both keeps =
-      sym (list_all-append (λ ν. not (is_compatible nat_eq μ ν && keeps (merge μ ν))) (rows_at rows first) (rows_at rows second))
-      ∙ alone-tried nat_eq μ (may_meet nat_eq key μ) (may_meet-covers nat_eq key μ) both rows tried_two keeps
-
-  pub apart_both : (is_apart (rows_at rows first) μ && is_apart (rows_at rows second) μ) ≡ is_apart rows μ
-  apart_both =
-      sym (list_all-append (λ ν. not (is_compatible nat_eq μ ν) || not (share μ ν)) (rows_at rows first) (rows_at rows second))
-      ∙ apart-tried nat_eq μ (may_meet nat_eq key μ) (may_meet-covers nat_eq key μ) (rows_at rows first ++ rows_at rows second) rows tried_two
+  pub tried-apart : is_apart (rows_at rows places) μ ≡ is_apart rows μ
+  tried-apart = apart-tried nat_eq μ (may_meet nat_eq key μ) (may_meet-covers nat_eq key μ) (rows_at rows places) rows tried
 
 -- a condition that is true of every row
 pub filter-every : (rows : List (Solution ℕ)) → filter (λ μ. true) rows ≡ rows

@@ -3,9 +3,10 @@ use Rattle.std.proofs.Common.{◌≡◌, ℕ, zero, suc, ◌+◌, ◌<◌, Bool,
 use Rattle.std.specs.List.{range_with_len}
 use Rattle.std.specs.Option.{option_eq}
 use Rattle.std.specs.Cmp.Lexicographic.{pointwise}
+use Rattle.std.proofs.Math.Bool.{and-true}
 use Rattle.std.proofs.lemmas.Bool.{false≢true, and_parts}
-use Rattle.std.proofs.lemmas.List.{map-append, append-nil, length-append, length-map}
-use Rattle.std.proofs.lemmas.List.Elements.{filter-append}
+use Rattle.std.proofs.lemmas.List.{map-append, length-append, length-map}
+use Rattle.std.proofs.lemmas.List.Elements.{All-append, filter-append}
 use Rattle.algebra_model.specs.Bag.{IsSameBag}
 use Rattle.algebra_model.specs.Solution.{Solution}
 use Rattle.algebra_model.specs.RowOrder.{cells}
@@ -162,12 +163,29 @@ module _ (key : List ℕ) (μ : Solution ℕ) (numbers : List ℕ) (is : map Som
           ∙ (λ j. rows_at_places (has_key key numbers) rows j ++ rows_at_places (λ ν. not (is_keyed key ν)) rows j)
           ∙ ap (λ (p : Solution ℕ → Bool). filter p rows ++ filter (λ ν. not (is_keyed key ν)) rows) (λ j ν. same_test ν j)
 
+pub keyed_inside : (key numbers : List ℕ) (rows : List (Solution ℕ)) (table : PlaceTable) → IsTableOf key rows table
+    → All (λ i. i < length rows) (group_of table.keyed numbers ++ table.apart)
+keyed_inside key numbers rows table is =
+    subst (λ (l : List ℕ). All (λ i. i < length rows) l) (λ j. sym (is.0 numbers) j ++ sym is.1 j)
+    (All-append (λ i. i < length rows) (places_where (has_key key numbers) rows) (places_where (λ μ. not (is_keyed key μ)) rows)
+    (places_inside (has_key key numbers) rows) (places_inside (λ μ. not (is_keyed key μ)) rows))
+
+-- a key of one variable
+pub one_cell : (key : List ℕ) (μ : Solution ℕ) → length key ≡ 1 → cells key μ ≡ get_or μ (get_or key 0 0) None ∷ []
+one_cell [] μ e = absurd (omega arith)
+one_cell (v ∷ []) μ e = refl
+one_cell (v ∷ u ∷ key) μ e = absurd (omega arith)
+
+pub one_keyed : (key : List ℕ) (μ : Solution ℕ) → length key ≡ 1 → is_keyed key μ ≡ is_some (get_or μ (get_or key 0 0) None)
+one_keyed [] μ e = absurd (omega arith)
+one_keyed (v ∷ []) μ e = and-true (is_some (get_or μ v None))
+one_keyed (v ∷ u ∷ key) μ e = absurd (omega arith)
+
 -- for a left row without a key all rows are candidates
 pub unkeyed_tried : (key : List ℕ) (μ : Solution ℕ) → is_keyed key μ ≡ false → (rows : List (Solution ℕ))
-    → IsSameBag (rows_at rows (range_with_len 0 (length rows) ++ [])) (filter (may_meet nat_eq key μ) rows)
+    → IsSameBag (rows_at rows (range_with_len 0 (length rows))) (filter (may_meet nat_eq key μ) rows)
 unkeyed_tried key μ e rows =
-    same_bag (rows_at rows (range_with_len 0 (length rows) ++ [])) (filter (may_meet nat_eq key μ) rows)
-    (ap (rows_at rows) (append-nil (range_with_len 0 (length rows))) ∙ rows_at_all rows ∙ sym (all_pass rows))
+    same_bag (rows_at rows (range_with_len 0 (length rows))) (filter (may_meet nat_eq key μ) rows) (rows_at_all rows ∙ sym (all_pass rows))
   where
     passes : (ν : Solution ℕ) → may_meet nat_eq key μ ν ≡ true
     passes ν = ap (λ b. not b || (not (is_keyed key ν) || same_key nat_eq key μ ν)) e

@@ -6,3 +6,4 @@ pub mod Numbers
 pub mod Pairing
 pub mod Row
 pub mod RowKeys
+pub mod Tried

@@ -29,7 +29,7 @@ pub(crate) struct Column<'r> {
 #[derive(Clone, Copy)]
 pub(crate) struct CloseColumn<'r> {
     rows: &'r Rows,
-    variable: usize,
+    pub(crate) variable: usize,
     pub(crate) least: u64,
     pub(crate) span: usize,
     ghost below: { variable < rows.now.width },

@@ -1,8 +1,8 @@
 //! The choice of the variables that make the join key of two lists of rows.
-ghost use Rattle.std.specs.Prelude.{◌≡◌, ◌<◌, All, IfOk};
+ghost use Rattle.std.specs.Prelude.{◌≡◌, ◌<◌, ◌∷◌, [], All, IfOk, IfSome};
 ghost use Rattle.row_join.specs.Pairing.{binds};
 
-use crate::column::Column;
+use crate::column::{CloseColumn, Column};
 use row_core::Rows;
 use std::alloc::{AllocError, Global};
 
@@ -32,13 +32,15 @@ pub(crate) fn is_ever_bound(rows: &Rows, variable: usize) -> bool
 
 /// Returns the columns of a variable, if some row of each side binds it. If a side does not, only
 /// its column is read as a whole.
-fn candidate<'r>(
-    left: &'r Rows,
+fn candidate<'l, 'r>(
+    left: &'l Rows,
     right: &'r Rows,
     variable: usize,
-) -> Option<(Column<'r>, Column<'r>)>
+) -> Option<(Column<'l>, Column<'r>)>
     requires same_width { left.now.width ≡ right.now.width }
     requires below { variable < left.now.width }
+    ensures rows { IfSome result (λ columns. columns.1.rows.now ≡ right.now) }
+    ensures variable { IfSome result (λ columns. columns.1.variable ≡ variable) }
 {
     if !is_ever_bound(left, variable) {
         return None;
@@ -58,32 +60,42 @@ fn open_pairs(left: &Column, right: &Column) -> usize {
     of_left.saturating_add(of_right)
 }
 
-/// Returns whether the variable can be the key alone: its numbers are close together, so that they
-/// need no hash, and few rows have the same number. A byte counts the rows of each number between
-/// the least and the greatest.
-fn is_enough(alloc: Global, column: &Column) -> Result<bool, AllocError> {
-    let Some(column) = column.close() else {
-        return Ok(false);
+/// Returns the column with slots if the variable can be the key alone: its numbers are close
+/// together, so that they need no hash, and few rows have the same number. A byte counts the rows of
+/// each number between the least and the greatest.
+fn enough<'r>(alloc: Global, column: &Column<'r>) -> Result<Option<CloseColumn<'r>>, AllocError>
+    ensures rows { IfOk result (λ found. IfSome found (λ close. close.rows.now ≡ column.now.rows.now)) }
+    ensures variable { IfOk result (λ found. IfSome found (λ close. close.variable ≡ column.now.variable)) }
+{
+    let Some(close) = column.close() else {
+        return Ok(None);
     };
-    let mut counts = vec![in alloc; 0u8; column.span]?;
-    for place in 0..column.len() {
-        let slot = column.slot(place);
+    let mut counts = vec![in alloc; 0u8; close.span]?;
+    for place in 0..close.len() {
+        let slot = close.slot(place);
         if slot < counts.len() {
             if counts[slot] >= ROWS_A_NUMBER {
-                return Ok(false);
+                return Ok(None);
             }
             counts[slot] += 1;
         }
     }
-    Ok(true)
+    Ok(Some(close))
 }
 
-/// Returns the variables of the join key. Candidates are the variables that some row of each side
-/// binds. The key has the candidates that add few pairs, or only the first of them that is enough.
-/// If none adds few pairs, it has all candidates. It is empty if the sides share no variable.
-pub(crate) fn key_of(alloc: Global, left: &Rows, right: &Rows) -> Result<Vec<usize>, AllocError>
+/// Returns the variables of the join key, and the column of the right rows if one variable is
+/// enough. Candidates are the variables that some row of each side binds. The key has the candidates
+/// that add few pairs, or only the first of them that is enough. If none adds few pairs, it has all
+/// candidates. It is empty if the sides share no variable.
+pub(crate) fn key_of<'r>(
+    alloc: Global,
+    left: &Rows,
+    right: &'r Rows,
+) -> Result<(Vec<usize>, Option<CloseColumn<'r>>), AllocError>
     requires same_width { left.now.width ≡ right.now.width }
-    ensures below { IfOk result (λ key. All (λ v. v < left.now.width) key.items) }
+    ensures below { IfOk result (λ key. All (λ v. v < left.now.width) key.0.items) }
+    ensures rows { IfOk result (λ key. IfSome key.1 (λ column. column.rows.now ≡ right.now)) }
+    ensures variable { IfOk result (λ key. IfSome key.1 (λ column. key.0.items ≡ column.variable ∷ [])) }
 {
     let rows = left.len().saturating_add(right.len());
     let few = rows.saturating_mul(PAIRS_A_ROW);
@@ -93,15 +105,15 @@ pub(crate) fn key_of(alloc: Global, left: &Rows, right: &Rows) -> Result<Vec<usi
         if let Some((of_left, of_right)) = candidate(left, right, v) {
             shared.push(v)?;
             if open_pairs(&of_left, &of_right) <= few {
-                if is_enough(alloc, &of_right)? {
-                    return Ok(vec![in alloc; v]?);
+                if let Some(column) = enough(alloc, &of_right)? {
+                    return Ok((vec![in alloc; v]?, Some(column)));
                 }
                 closed.push(v)?;
             }
         }
     }
     if closed.is_empty() {
-        return Ok(shared);
+        return Ok((shared, None));
     }
-    Ok(closed)
+    Ok((closed, None))
 }

@@ -1,8 +1,8 @@
 //! An index of rows by the numbers that they bind some variables to.
-ghost use Rattle.std.specs.Prelude.{◌≡◌, ◌<◌, IfOk, All};
+ghost use Rattle.std.specs.Prelude.{◌≡◌, ◌<◌, ◌∷◌, [], IfOk, All};
 ghost use Rattle.row_join.specs.Places.{IsTableOf, group_of};
 
-use crate::column::Column;
+use crate::column::{CloseColumn, Column};
 use crate::hashed_places::HashedPlaces;
 use crate::numbered_places::NumberedPlaces;
 use keyed_hash::HashState;
@@ -51,6 +51,20 @@ impl Model for Keyed {
 }
 
 impl Keyed {
+    /// Builds the index of the rows of a column, whose variable is the key.
+    ///
+    /// # Errors
+    /// `AllocError` if an allocation fails.
+    pub(crate) fn of_column(alloc: Global, column: &CloseColumn<'_>) -> Result<Keyed, AllocError>
+        ensures table { IfOk result
+            (λ keyed. IsTableOf (column.now.variable ∷ []) column.now.rows.now.rows keyed) }
+    {
+        let places = NumberedPlaces::build(alloc, column)?;
+        Ok(Keyed {
+            table: TableForm::Numbered(places),
+        })
+    }
+
     /// Builds the index of the rows by the values of the key's variables. An empty key puts all
     /// rows into one group. The input chooses the rows, so the runtime supplies a random hash
     /// state.
@@ -71,10 +85,7 @@ impl Keyed {
     {
         if key.len() == 1 {
             if let Some(column) = Column::read(rows, key[0]).close() {
-                let places = NumberedPlaces::build(alloc, &column)?;
-                return Ok(Keyed {
-                    table: TableForm::Numbered(places),
-                });
+                return Keyed::of_column(alloc, &column);
             }
         }
         let places = HashedPlaces::build(alloc, HashState::new(state), rows, key)?;
@@ -87,6 +98,14 @@ impl Keyed {
     /// order. The slice is empty if the count of numbers differs from that of the key's variables.
     pub fn places(&self, numbers: &Vec<u64>) -> &[usize]
         ensures value { result.now ≡ group_of self.now.keyed numbers.now.items }
+    {
+        self.find(numbers)
+    }
+
+    /// Returns the places of the rows that bind the key's variables to these numbers, as `places`
+    /// does.
+    pub(crate) fn find(&self, numbers: &[u64]) -> &[usize]
+        ensures value { result.now ≡ group_of self.now.keyed numbers.now }
     {
         match &self.table {
             TableForm::Numbered(places) => places.places(numbers),

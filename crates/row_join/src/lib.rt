@@ -23,9 +23,9 @@
 //!
 //! Reading order: `keyed` (over `numbered_places` with `chains` and `column`, for one variable whose numbers are close
 //! together, and over `hashed_places` with `groups`, `keys` and `hashing`, the hash table), `key_choice` (the variables
-//! of the key), `row_ref` (a row in its list), `right_side` (the keyed rows, and the candidates for a left row),
-//! `left_rows` (the loop over the left rows, in pieces), `merging` (the merges of a left row), `joins`, `left_joins`,
-//! `minus_operator`, `distinct_rows`.
+//! of the key), `row_ref` (a row in its list), `tried` (the candidates for a left row), `right_side` (the keyed rows, and
+//! what finds the candidates), `left_rows` (the loop over the left rows, in pieces), `merging` (the merges of a left
+//! row), `joins`, `left_joins`, `minus_operator`, `distinct_rows`.
 //!
 //! ```text
 //! join((?s: 1), (?s: 2) ; (?s: 1, ?o: 7), (?o: 9))
@@ -53,6 +53,7 @@ mod minus_operator;
 mod numbered_places;
 mod right_side;
 mod row_ref;
+mod tried;
 
 pub use distinct_rows::distinct;
 pub use joins::join;

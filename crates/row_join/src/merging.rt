@@ -6,7 +6,6 @@ ghost use Rattle.algebra_model.specs.Solution.{is_compatible, merge};
 ghost use Rattle.algebra_model.specs.Solve.{alone};
 ghost use Rattle.row_join.specs.Numbers.{passes, all_pass};
 ghost use Rattle.row_join.specs.Pairing.{row_if};
-ghost use Rattle.row_join.specs.Places.{rows_at};
 ghost use Rattle.row_join.specs.Row.{row_of};
 
 use crate::left_joins::RowTest;
@@ -37,44 +36,13 @@ pub(crate) fn add_merges<T: RowTest>(
     ensures width { OnOk result (made.new.width ≡ made.old.width) }
 {
     let tried = right.tried(row, &mut buffers.numbers)?;
-    let merged = &mut buffers.merged;
-    let first = add_kept(alloc, test, row, right.rows, tried.first, merged, made)?;
-    if tried.second.is_empty() {
-        return Ok(first);
-    }
-    let second = add_kept(alloc, test, row, right.rows, tried.second, merged, made)?;
-    Ok(first && second)
-}
-
-/// Adds the merges of a row with the right rows at these places for which the condition is true.
-/// Returns whether there are none.
-fn add_kept<T: RowTest>(
-    alloc: Global,
-    test: &T,
-    row: RowRef<'_>,
-    right: &Rows,
-    places: &[usize],
-    merged: &mut Vec<Option<u64>>,
-    made: &mut Rows,
-) -> Result<bool, AllocError>
-    requires row_wide { row.rows.now.width ≡ right.now.width }
-    requires made_wide { made.old.width ≡ right.now.width }
-    requires inside { All (λ i. i < length right.now.rows) places.now }
-    requires row_known { passes (T.knows test.now) (row_of row) ≡ true }
-    requires right_known { all_pass (T.knows test.now) right.now.rows ≡ true }
-    ensures rows { OnOk result (made.new.rows ≡ made.old.rows ++ filter (T.keeps test.now)
-        (merges nat_eq (row_of row.entry) (rows_at right.now.rows places.now))) }
-    ensures alone { IfOk result (λ answer. answer
-        ≡ alone nat_eq (T.keeps test.now) (rows_at right.now.rows places.now) (row_of row.entry)) }
-    ensures width { OnOk result (made.new.width ≡ made.old.width) }
-{
     let mut alone = true;
-    for i in 0..places.len() {
+    for i in 0..tried.len() {
         let other = RowRef {
-            rows: right,
-            at: places[i],
+            rows: right.rows,
+            at: tried.place(i),
         };
-        if add_merge(alloc, test, row, other, merged, made)? {
+        if add_merge(alloc, test, row, other, &mut buffers.merged, made)? {
             alone = false;
         }
     }

@@ -6,12 +6,14 @@ ghost use Rattle.row_join.specs.Numbers.{all_pass};
 ghost use Rattle.row_join.specs.Pairing.{is_apart};
 ghost use Rattle.row_join.specs.Places.{rows_at};
 ghost use Rattle.row_join.specs.Row.{row_of};
+ghost use Rattle.row_join.specs.Tried.{places_of};
 ghost use Rattle.row_pieces.specs.How.{IsRunnable, HasOneWorker};
 ghost use Rattle.row_pieces.specs.declared.fault.EvalFault.TheVariants.{Memory};
 
 use crate::left_rows::{Buffers, Pairing, pair_rows};
 use crate::right_side::RightSide;
 use crate::row_ref::RowRef;
+use crate::tried::Tried;
 use piece_pool::Gate;
 use row_core::Rows;
 use row_pieces::{Context, EvalFault, How};
@@ -99,22 +101,20 @@ fn stays(row: RowRef<'_>, right: &RightSide, numbers: &mut Vec<u64>) -> Result<b
         return Ok(true);
     }
     let tried = right.tried(row, numbers)?;
-    let first = is_apart(row, right.rows, tried.first);
-    let second = is_apart(row, right.rows, tried.second);
-    Ok(first && second)
+    Ok(is_apart(row, right.rows, tried))
 }
 
 /// Returns whether each of the rows at these places is incompatible with the row, or shares no
 /// bound variable with it.
-fn is_apart(row: RowRef<'_>, right: &Rows, places: &[usize]) -> bool
+fn is_apart(row: RowRef<'_>, right: &Rows, tried: Tried<'_>) -> bool
     requires row_wide { row.rows.now.width ≡ right.now.width }
-    requires inside { All (λ i. i < length right.now.rows) places.now }
-    ensures value { result ≡ is_apart (rows_at right.now.rows places.now) (row_of row.entry) }
+    requires inside { All (λ i. i < length right.now.rows) (places_of tried) }
+    ensures value { result ≡ is_apart (rows_at right.now.rows (places_of tried.entry)) (row_of row.entry) }
 {
-    for i in 0..places.len() {
+    for i in 0..tried.len() {
         let other = RowRef {
             rows: right,
-            at: places[i],
+            at: tried.place(i),
         };
         if row.is_compatible(other) && row.shares(other) {
             return false;

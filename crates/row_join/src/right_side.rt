@@ -1,53 +1,34 @@
 //! The right side of a join: rows that are indexed once. All pieces of the left side borrow it.
 ghost use Rattle.std.specs.Prelude.{◌≡◌, ◌<◌, ◌++◌, ℕ, All, IfOk, None, [], filter, get_or, is_some, length, nat_eq};
-ghost use Rattle.std.specs.List.{range_with_len};
 ghost use Rattle.algebra_model.specs.Bag.{IsSameBag};
 ghost use Rattle.algebra_model.specs.Keys.{may_meet};
 ghost use Rattle.row_join.specs.Pairing.{binds, shares_some};
-ghost use Rattle.row_join.specs.Places.{IsTableOf, rows_at};
+ghost use Rattle.row_join.specs.Places.{IsTableOf, group_of, rows_at};
 ghost use Rattle.row_join.specs.Row.{row_of};
+ghost use Rattle.row_join.specs.Tried.{places_of};
 
 use crate::key_choice::{is_ever_bound, key_of};
 use crate::keyed::Keyed;
 use crate::row_ref::RowRef;
+use crate::tried::Tried;
 use row_core::Rows;
 use std::alloc::{AllocError, Global};
 use std::hash::RandomState;
 
-/// The rows of the right side, their places by a key, all their places, and a row that binds the
-/// variables that some row binds.
+/// The rows of the right side, their places by a key, and a row that binds the variables that some
+/// row binds.
 #[derive(Drop)]
 pub(crate) struct RightSide<'r> {
     pub(crate) rows: &'r Rows,
     key: Vec<usize>,
     keyed: Keyed,
-    all: Vec<usize>,
     bound: Rows,
     ghost below: { All (λ v. v < rows.now.width) key.items },
     ghost table: { IsTableOf key.items rows.now.rows keyed },
-    ghost each: { all.items ≡ range_with_len 0 (length rows.now.rows) },
     ghost bound_some: { 0 < length bound.rows },
     ghost bound_wide: { bound.width ≡ rows.now.width },
     ghost covers: { (v : ℕ) → v < rows.now.width
         → is_some (get_or (get_or bound.rows 0 []) v None) ≡ binds rows.now.rows v },
-}
-
-/// The places of the right rows that are candidates for a left row, in two lists.
-#[derive(Clone, Copy)]
-pub(crate) struct Tried<'k> {
-    pub(crate) first: &'k [usize],
-    pub(crate) second: &'k [usize],
-}
-
-/// Returns the places of `count` rows.
-fn places_of(alloc: Global, count: usize) -> Result<Vec<usize>, AllocError>
-    ensures places { IfOk result (λ places. places.items ≡ range_with_len 0 count) }
-{
-    let mut places = Vec::with_capacity(alloc, count)?;
-    for place in 0..count {
-        places.push_reserved(place);
-    }
-    Ok(places)
 }
 
 /// Returns a list of one row, which binds each variable that some of the rows binds, to 0.
@@ -80,15 +61,16 @@ impl<'r> RightSide<'r> {
         requires same_width { left.now.width ≡ rows.now.width }
         ensures rows { IfOk result (λ right. right.rows.now ≡ rows.now) }
     {
-        let key = key_of(alloc, left, rows)?;
-        let keyed = Keyed::build(alloc, state, rows, &key)?;
-        let all = places_of(alloc, rows.len())?;
+        let (key, column) = key_of(alloc, left, rows)?;
+        let keyed = match column {
+            Some(column) => Keyed::of_column(alloc, &column)?,
+            None => Keyed::build(alloc, state, rows, &key)?,
+        };
         let bound = bound_by_some(alloc, rows)?;
         Ok(RightSide {
             rows,
             key,
             keyed,
-            all,
             bound,
         })
     }
@@ -117,21 +99,27 @@ impl<'r> RightSide<'r> {
         numbers: &mut Vec<u64>,
     ) -> Result<Tried<'_>, AllocError>
         requires wide { row.rows.now.width ≡ self.now.rows.now.width }
-        ensures tried { IfOk result (λ tried. IsSameBag
-            (rows_at self.now.rows.now.rows (tried.first.now ++ tried.second.now))
+        ensures tried { IfOk result (λ tried. IsSameBag (rows_at self.now.rows.now.rows (places_of tried))
             (filter (may_meet nat_eq self.now.key.items (row_of row.entry)) self.now.rows.now.rows)) }
-        ensures first { IfOk result (λ tried. All (λ i. i < length self.now.rows.now.rows) tried.first.now) }
-        ensures second { IfOk result (λ tried. All (λ i. i < length self.now.rows.now.rows) tried.second.now) }
+        ensures inside { IfOk result (λ tried. All (λ i. i < length self.now.rows.now.rows) (places_of tried)) }
     {
-        if row.read_key(&self.key, numbers)? {
-            return Ok(Tried {
-                first: self.keyed.places(numbers),
-                second: self.keyed.apart(),
-            });
+        if self.key.len() == 1 {
+            if let Some(number) = row.get(self.key[0]) {
+                return Ok(self.with_numbers(&[number]));
+            }
+        } else if row.read_key(&self.key, numbers)? {
+            return Ok(self.with_numbers(numbers));
         }
-        Ok(Tried {
-            first: &self.all,
-            second: &[],
-        })
+        Ok(Tried::All(self.rows.len()))
+    }
+
+    /// Returns the places of the rows with these numbers and of the rows without a key.
+    fn with_numbers(&self, numbers: &[u64]) -> Tried<'_>
+        ensures value { places_of result ≡ group_of self.now.keyed.keyed numbers.now ++ self.now.keyed.apart }
+    {
+        Tried::Keyed {
+            found: self.keyed.find(numbers),
+            apart: self.keyed.apart(),
+        }
     }
 }

@@ -38,7 +38,7 @@ impl<'r> RowRef<'r> {
     }
 
     /// Returns the number that the row binds a variable to, or None.
-    fn get(self, variable: usize) -> Option<u64>
+    pub(crate) fn get(self, variable: usize) -> Option<u64>
         requires below { variable < self.rows.now.width }
         ensures value { result ≡ get_or (row_of self.entry) variable None }
     {

@@ -1,7 +1,7 @@
 use Rattle.std.proofs.Common.{◌≡◌, ◌<◌, ◌++◌, ◌∷◌, [], All, List, ℕ, Vec, Global, ap, ◌∙◌, arith}
 use Rattle.std.proofs.lemmas.List.Elements.{All-append, All-cons, All-nil, All-same}
 use Rattle.row_join.proofs.key_choice.key_of.Goals as goal
-use Rattle.row_join.proofs.key_choice.key_of.Goals.{in_default, in-Some+in_ok-push+else-open_pairs-few, in-Some+in_ok-push+then-open_pairs-few+in_ok-is_enough+else-branch+in_ok-push-2}
+use Rattle.row_join.proofs.key_choice.key_of.Goals.{in_default, in-Some+in_ok-push+else-open_pairs-few, in-Some+in_ok-push+then-open_pairs-few+in_ok-column+in_default-2+in_ok-push-2}
 
 same_below : (n : ℕ) (old new : Vec ℕ Global) → new ≡ old → All (λ u. u < n) old.items → All (λ u. u < n) new.items
 same_below n old new is all = All-same (λ u. u < n) new.items old.items (ap (λ (l : Vec ℕ Global). l.items) is) all
@@ -18,7 +18,7 @@ loop-v-preserved c =
     let below : v < n = omega arith in
     let was = c.loop-v.invariant in
     elim c.match-candidate.branch [
-      | in-Some+in_ok-push+then-open_pairs-few+in_ok-is_enough+else-branch+in_ok-push-2 w ↦ record {
+      | in-Some+in_ok-push+then-open_pairs-few+in_ok-column+in_default-2+in_ok-push-2 w ↦ record {
         closed = more_below n _ _ _ v below w.closed-is w.in_ok-push-2.ensures.items was.closed;
         shared = more_below n _ _ _ v below w.shared-is w.in_ok-push.ensures.items was.shared;
       }
