@@ -1,21 +1,26 @@
 -- The counts of sorted keys are those of an index of their quads.
-use Rattle.std.proofs.Common.{◌≡◌, ℕ, zero, suc, ◌+◌, ◌<◌, ◌≤◌, ◌||◌, Bool, true, false, cond, List, [], ◌∷◌, length, map, drop, slice_index_or, nat_eq, All, IsPermutation, IsSorted, eqb-true, eq-eqb, refl, sym, ap, ◌∙◌, subst, Result, Ok, Err, IfOk, true≢false, inl, inr, ◌⊎◌, arith}
-use Rattle.std.specs.declared.alloc.AllocError.{AllocError}
+use Rattle.std.proofs.Common.{◌≡◌, ℕ, zero, suc, ◌+◌, ◌<◌, ◌≤◌, ◌||◌, Bool, true, false, cond, List, [], ◌∷◌, length, map, drop, slice_index_or, nat_eq, IsPermutation, IsSorted, eqb-true, eq-eqb, refl, sym, ap, ◌∙◌, true≢false, inl, inr, ◌⊎◌, arith}
 use Rattle.std.proofs.Math.Seq.{drop-cons}
 use Rattle.std.specs.List.{cons_option, dedup, dedup_from}
+use Rattle.std.specs.Ordering.{nat_cmp}
+use Rattle.std.proofs.lemmas.Bool.Decides.{Decides-eqb}
+use Rattle.std.proofs.lemmas.Cmp.{nat_cmp_total}
 use Rattle.std.proofs.lemmas.List.{length-map}
 use Rattle.std.proofs.lemmas.List.Sorted.{length_permutation}
 use Rattle.algebra_model.specs.Bag.{without_repeats}
 use Rattle.dict_core.specs.declared.num_quad.NumQuad.{NumQuad}
 use Rattle.dict_core.proofs.NumQuadLaws.{quad_eq}
 use Rattle.quad_index.specs.declared.counting.IndexCounts.{IndexCounts}
-use Rattle.quad_index.specs.declared.sort_order.SortOrder.TheVariants.{Gspo}
-use Rattle.quad_index.specs.SortOrder.{by_gspo}
+use Rattle.quad_index.specs.declared.sort_order.SortOrder.{SortOrder}
+use Rattle.quad_index.specs.declared.sort_order.SortOrder.TheVariants.{Gspo, Gpos, Gosp}
+use Rattle.quad_index.specs.SortOrder.{by_g, by_gspo}
 use Rattle.quad_index.specs.Matching.{graph_names}
-use Rattle.quad_index.specs.Packed.{IsSmall, graph_key_of, graph_of, key_of, quad_of}
-use Rattle.quad_index.specs.Counting.{IsCountOf, IsCountOfKeys, names_after}
-use Rattle.quad_index.proofs.IndexSteps.{names_once}
+use Rattle.quad_index.specs.Packed.{AreKeys, graph_key_of, graph_of, quad_of}
+use Rattle.quad_index.specs.Counting.{IsCountOf, names_after}
+use Rattle.quad_index.proofs.IndexSteps.{names_sorted}
+use Rattle.quad_index.proofs.OnceLaws.{dedup_once}
 use Rattle.quad_index.proofs.PackedLaws.{packed_list}
+use Rattle.quad_index.proofs.SortOrderLaws.{nat_ties, sorted_by_g, sorted_g}
 
 -- the graph names of the quads that have these keys
 abbrev names_of_keys : List ℕ → List ℕ
@@ -114,23 +119,32 @@ all_names keys i count last over was =
 
 -- ---- the counts
 
--- a sorted list has as many graph names as it has names that differ from the name before
-pub names_count : (index : List NumQuad) → IsSorted by_gspo index → length (dedup nat_eq (graph_names index)) ≡ length (without_repeats nat_eq (graph_names index))
+-- a list that is sorted by the graph has as many graph names as it has names that differ from the name before
+names_count : (index : List NumQuad) → IsSorted by_g index → length (dedup nat_eq (graph_names index)) ≡ length (without_repeats nat_eq (graph_names index))
 names_count index sorted =
     length_permutation (without_repeats nat_eq (graph_names index)) (dedup nat_eq (graph_names index))
-    (names_once index index (dedup nat_eq (graph_names index)) (dedup nat_eq (graph_names index)) refl sorted refl refl)
+    (dedup_once nat_eq Decides-eqb nat_cmp nat_cmp_total (λ x y. sym (nat_ties x y)) (graph_names index) (names_sorted index sorted))
 
--- the counts of the keys of the quads
-pub counted : (quads : List NumQuad) (keys : List ℕ) (counts : IndexCounts) → All IsSmall quads → keys ≡ map (key_of Gspo) quads → IsCountOfKeys keys counts → IsCountOf quads counts
-counted quads keys counts small keys_are c =
-    let ks = dedup nat_eq c.sorted_keys in
-    let list = map (quad_of Gspo) ks in
-    let p = packed_list Gspo quads list keys c.sorted_keys small keys_are c.moved c.sorted refl in
+-- the place of the graph name is the same in each order
+names_alike : (order : SortOrder) (keys : List ℕ) → names_of_keys keys ≡ graph_names (map (quad_of order) keys)
+names_alike Gspo keys = refl
+names_alike Gpos [] = refl
+names_alike Gpos (key ∷ keys) = ap (cons_option (graph_of (graph_key_of key))) (names_alike Gpos keys)
+names_alike Gosp [] = refl
+names_alike Gosp (key ∷ keys) = ap (cons_option (graph_of (graph_key_of key))) (names_alike Gosp keys)
+
+-- the counts of sorted keys
+pub counted : (order : SortOrder) (keys sorted_keys : List ℕ) (counts : IndexCounts) → AreKeys keys → IsPermutation keys sorted_keys → IsSorted nat_cmp sorted_keys
+    → counts.quads ≡ length (dedup nat_eq sorted_keys) → counts.graphs ≡ names_after 0 (dedup nat_eq sorted_keys) → IsCountOf (map (quad_of order) keys) counts
+counted order keys sorted_keys counts fit moved sorted quads_are graphs_are =
+    let ks = dedup nat_eq sorted_keys in
+    let list = map (quad_of order) ks in
+    let p = packed_list order keys sorted_keys list fit moved sorted refl in
     record {
       index = list;
       each_once = p.each_once;
-      quad_count = c.key_count ∙ sym (length-map ks (quad_of Gspo));
-      graph_count = c.name_count ∙ before ks ∙ names_count list p.sorted;
+      quad_count = quads_are ∙ sym (length-map ks (quad_of order));
+      graph_count = graphs_are ∙ before ks ∙ ap (λ (ns : List ℕ). length (dedup nat_eq ns)) (names_alike order ks) ∙ names_count list (sorted_by_g order list p.sorted);
     }
 
 -- the counts of the sorted quads
@@ -140,10 +154,5 @@ counted_list quads list names counts sorted once names_are quads_are graphs_are 
   index = list;
   each_once = once;
   quad_count = quads_are;
-  graph_count = graphs_are ∙ ap length names_are ∙ names_count list sorted;
+  graph_count = graphs_are ∙ ap length names_are ∙ names_count list (sorted_g list sorted);
 }
-
-pub counted_keys : (quads slice : List NumQuad) (keys : List ℕ) (result : Result IndexCounts AllocError) → slice ≡ quads → All IsSmall slice → keys ≡ map (key_of Gspo) slice
-    → IfOk result (IsCountOfKeys keys) → IfOk result (IsCountOf quads)
-counted_keys quads slice keys (Ok counts) same small keys_are c = subst (λ (qs : List NumQuad). IsCountOf qs counts) same (counted slice keys counts small keys_are c)
-counted_keys quads slice keys (Err e) same small keys_are c = tt

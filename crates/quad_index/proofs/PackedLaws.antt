@@ -1,12 +1,12 @@
 -- Packed keys have the order of their quads, and give them back.
-use Rattle.std.proofs.Common.{◌≡◌, ℕ, zero, suc, ◌+◌, ◌/◌, ◌%◌, ◌^◌, ◌<◌, ◌≤◌, Bool, true, false, cond, Option, None, Some, List, [], ◌∷◌, ◌++◌, length, get_or, map, take, nat_eq, nat_lt, All, IsPermutation, IsSorted, eqb-true, ltb-true, ltb-false, eq-eqb, refl, sym, ap, ◌∙◌, subst, true≢false, inl, inr, ◌⊎◌, arith, rules}
+use Rattle.std.proofs.Common.{◌≡◌, ℕ, zero, suc, ◌+◌, ◌*◌, ◌/◌, ◌%◌, ◌^◌, ◌<◌, ◌≤◌, Bool, true, false, cond, Option, None, Some, List, [], ◌∷◌, ◌++◌, length, get_or, map, take, nat_eq, nat_lt, All, IsPermutation, IsSorted, eqb-true, ltb-true, ltb-false, eq-eqb, refl, sym, ap, ◌∙◌, append_assoc, subst, true≢false, inl, inr, ◌⊎◌, arith, rules}
 use Rattle.std.specs.List.{dedup, dedup_from}
 use Rattle.std.specs.Ordering.{is_lt, nat_cmp, ordering_then}
-use Rattle.std.specs.Option.{option_cmp}
+use Rattle.std.specs.Option.{ForSome, option_cmp}
 use Rattle.std.specs.declared.cmp.Ordering.TheVariants.{Less, Equal, Greater}
-use Rattle.std.proofs.lemmas.Nat.{div-mul-add, mod-mul-add}
+use Rattle.std.proofs.lemmas.Nat.{div-add-mod', div-mul-add, div_below, mod-mul-add, mod_below}
 use Rattle.std.proofs.lemmas.List.{length-map, map-append, take_all, take_more}
-use Rattle.std.proofs.lemmas.List.Elements.{All-cons, All-head, All-nil, All-tail}
+use Rattle.std.proofs.lemmas.List.Elements.{All-head, All-tail}
 use Rattle.std.proofs.lemmas.List.Sorted.{All-permutation, IsPermutation-map}
 use Rattle.algebra_model.specs.Bag.{IsWithoutRepeats, without_repeats}
 use Rattle.dict_core.specs.declared.num_quad.NumQuad.{NumQuad}
@@ -14,7 +14,7 @@ use Rattle.dict_core.proofs.NumQuadLaws.{quad_eq, quad_decides}
 use Rattle.quad_index.specs.declared.sort_order.SortOrder.{SortOrder}
 use Rattle.quad_index.specs.declared.sort_order.SortOrder.TheVariants.{Gspo, Gpos, Gosp}
 use Rattle.quad_index.specs.SortOrder.{order_cmp}
-use Rattle.quad_index.specs.Packed.{IsSmall, graph_key, graph_of, key_of, key_of_places, quad_of, quad_of_places, with_place}
+use Rattle.quad_index.specs.Packed.{AreKeys, IsSmall, graph_key, graph_key_of, graph_of, key_of, key_of_places, quad_of, quad_of_places, with_place}
 use Rattle.quad_index.proofs.OnceLaws.{dedup_distinct, dedup_once_of, dedup_sorted}
 use Rattle.quad_index.proofs.SortOrderLaws.{order_ties, order_total}
 
@@ -114,23 +114,60 @@ quad_is Gspo q k = places_are Gspo q.g q.s q.p q.o k.s k.p k.o
 quad_is Gpos q k = places_are Gpos q.g q.p q.o q.s k.p k.o k.s
 quad_is Gosp q k = places_are Gosp q.g q.o q.s q.p k.o k.s k.p
 
+-- ---- the key of a quad of a key
+
+whole_is : (n : ℕ) → with_place (n / 2 ^ 32) (n % 2 ^ 32) ≡ n
+whole_is n = div-add-mod' n (2 ^ 32)
+
+low_is : (n : ℕ) → n % 2 ^ 32 < 2 ^ 32
+low_is n = mod_below n (2 ^ 32) (omega arith)
+
+-- without the lowest place
+front_fits : (n m : ℕ) → n < m * 2 ^ 32 → n / 2 ^ 32 < m
+front_fits n m h = div_below n (2 ^ 32) m (omega arith) h
+
+key_graph : (k : ℕ) → graph_key (graph_of k) ≡ k
+key_graph zero = refl
+key_graph (suc g) = omega arith
+
+small_graph : (k : ℕ) → k < 2 ^ 32 → ForSome (graph_of k) (λ g. g + 1 < 2 ^ 32)
+small_graph zero h = λ g e. cc
+small_graph (suc k) h = λ g e. let same : k ≡ g = cc in omega (arith, same)
+
+module _ (key : ℕ) where
+  places_again : key_of_places (graph_key (graph_of (graph_key_of key))) (key / 2 ^ 32 / 2 ^ 32 % 2 ^ 32) (key / 2 ^ 32 % 2 ^ 32) (key % 2 ^ 32) ≡ key
+  places_again =
+      let b = key / 2 ^ 32 in
+      let a = b / 2 ^ 32 in
+      let front : with_place (graph_key (graph_of (graph_key_of key))) (a % 2 ^ 32) ≡ a = ap (λ g. with_place g (a % 2 ^ 32)) (key_graph (graph_key_of key)) ∙ whole_is a in
+      let middle : with_place (with_place (graph_key (graph_of (graph_key_of key))) (a % 2 ^ 32)) (b % 2 ^ 32) ≡ b = ap (λ g. with_place g (b % 2 ^ 32)) front ∙ whole_is b in
+      ap (λ g. with_place g (key % 2 ^ 32)) middle ∙ whole_is key
+
+  graph_fits : key < 2 ^ 128 → graph_key_of key < 2 ^ 32
+  graph_fits h =
+      let one : key / 2 ^ 32 < 2 ^ 96 = front_fits key (2 ^ 96) (omega arith) in
+      let two : key / 2 ^ 32 / 2 ^ 32 < 2 ^ 64 = front_fits (key / 2 ^ 32) (2 ^ 64) (omega (arith, one)) in
+      front_fits (key / 2 ^ 32 / 2 ^ 32) (2 ^ 32) (omega (arith, two))
+
+  -- the quad of each key is small
+  pub small_is : (order : SortOrder) → key < 2 ^ 128 → IsSmall (quad_of order key)
+  small_is Gspo h = record { g = small_graph (graph_key_of key) (graph_fits h); s = low_is (key / 2 ^ 32 / 2 ^ 32); p = low_is (key / 2 ^ 32); o = low_is key }
+  small_is Gpos h = record { g = small_graph (graph_key_of key) (graph_fits h); s = low_is key; p = low_is (key / 2 ^ 32 / 2 ^ 32); o = low_is (key / 2 ^ 32) }
+  small_is Gosp h = record { g = small_graph (graph_key_of key) (graph_fits h); s = low_is (key / 2 ^ 32); p = low_is key; o = low_is (key / 2 ^ 32 / 2 ^ 32) }
+
+  key_again : (order : SortOrder) → key_of order (quad_of order key) ≡ key
+  key_again Gspo = places_again
+  key_again Gpos = places_again
+  key_again Gosp = places_again
+
 -- ---- lists of keys
 
 -- the key of a small quad
-abbrev pub IsKey : SortOrder → ℕ → Type 0
+abbrev IsKey : SortOrder → ℕ → Type 0
 IsKey order key = IsSmall (quad_of order key) × (key_of order (quad_of order key) ≡ key)
 
-are_keys : (order : SortOrder) (quads : List NumQuad) → All IsSmall quads → All (IsKey order) (map (key_of order) quads)
-are_keys order [] h = All-nil (IsKey order)
-are_keys order (q ∷ quads) h =
-    let small = All-head IsSmall q quads h in
-    let e = quad_is order q small in
-    All-cons (IsKey order) (key_of order q) (map (key_of order) quads) (subst IsSmall (sym e) small, ap (key_of order) e)
-    (are_keys order quads (All-tail IsSmall q quads h))
-
-quads_again : (order : SortOrder) (quads : List NumQuad) → All IsSmall quads → map (quad_of order) (map (key_of order) quads) ≡ quads
-quads_again order [] h = refl
-quads_again order (q ∷ quads) h = λ i. quad_is order q (All-head IsSmall q quads h) i ∷ quads_again order quads (All-tail IsSmall q quads h) i
+are_keys : (order : SortOrder) (keys : List ℕ) → AreKeys keys → All (IsKey order) keys
+are_keys order keys h = λ i d low. let key = get_or keys i d in (small_is key order (h i d low), key_again key order)
 
 module _ (order : SortOrder) where
   abbrev f : ℕ → NumQuad
@@ -150,7 +187,7 @@ module _ (order : SortOrder) where
           let same : k ≡ l = sym a.1 ∙ ap (key_of order) ((quad_decides (f k) (f l)).0 h) ∙ b.1 in
           absurd (true≢false (sym (eq-eqb k l same) ∙ e))
 
-  get_mapped : (ks : List ℕ) (i : ℕ) (d : NumQuad) → i < length ks → get_or (map f ks) i d ≡ f (get_or ks i 0)
+  pub get_mapped : (ks : List ℕ) (i : ℕ) (d : NumQuad) → i < length ks → get_or (map f ks) i d ≡ f (get_or ks i 0)
   get_mapped [] i d low = absurd (omega arith)
   get_mapped (k ∷ ks) zero d low = refl
   get_mapped (k ∷ ks) (suc i) d low = get_mapped ks i d (omega arith)
@@ -195,14 +232,11 @@ module _ (order : SortOrder) where
     distinct = subst (IsWithoutRepeats quad_eq) (sym is) (dedup_distinct quad_eq quad_decides (order_cmp order) (order_total order) (order_ties order) xs sorted);
   }
 
-  pub packed_list : (quads list : List NumQuad) (keys ks : List ℕ) → All IsSmall quads → keys ≡ map (key_of order) quads → IsPermutation keys ks → IsSorted nat_cmp ks
-      → list ≡ map f (dedup nat_eq ks) → IsPackedList quads list
-  packed_list quads list keys ks small keys_are moved sorted list_is =
-      let moved_keys : IsPermutation (map (key_of order) quads) ks = subst (λ l. IsPermutation l ks) keys_are moved in
-      let all : All (IsKey order) ks = All-permutation (IsKey order) (map (key_of order) quads) ks moved_keys (are_keys order quads small) in
-      packed quads (map f ks) list (list_is ∙ dedup-mapped ks all)
-      (subst (λ l. IsPermutation l (map f ks)) (quads_again order quads small) (IsPermutation-map f (map (key_of order) quads) ks moved_keys))
-      (sorted_mapped ks all sorted)
+  pub packed_list : (keys ks : List ℕ) (list : List NumQuad) → AreKeys keys → IsPermutation keys ks → IsSorted nat_cmp ks → list ≡ map f (dedup nat_eq ks)
+      → IsPackedList (map f keys) list
+  packed_list keys ks list fit moved sorted list_is =
+      let all : All (IsKey order) ks = All-permutation (IsKey order) keys ks moved (are_keys order keys fit) in
+      packed (map f keys) (map f ks) list (list_is ∙ dedup-mapped ks all) (IsPermutation-map f keys ks moved) (sorted_mapped ks all sorted)
 
 -- ---- lists that are made item by item
 
@@ -216,3 +250,23 @@ mapped_all f xs i ys end was = was ∙ ap (map f) (take_all i xs end)
 
 pub all_of : {A : Type 0} (P : A → Type 0) (xs : List A) (i : ℕ) → length xs ≤ i → All P (take i xs) → All P xs
 all_of P xs i end h = subst (All P) (take_all i xs end) h
+
+-- one more key in another order
+pub anew_more : (from order : SortOrder) (keys : List ℕ) (i : ℕ) (packed longer : List ℕ) (key : ℕ) (q : NumQuad)
+    → i < length keys → get_or keys i 0 < 2 ^ 128 → map (quad_of order) packed ≡ map (quad_of from) (take i keys) → q ≡ quad_of from (get_or keys i 0)
+    → key ≡ key_of order q → longer ≡ packed ++ key ∷ [] → map (quad_of order) longer ≡ map (quad_of from) (take (i + 1) keys)
+anew_more from order keys i packed longer key q low fit was q_is key_is pushed =
+    let small : IsSmall q = subst IsSmall (sym q_is) (small_is (get_or keys i 0) from fit) in
+    mapped_more (quad_of from) keys i 0 (map (quad_of order) packed) (map (quad_of order) longer) (quad_of order key) low was
+    (ap (quad_of order) key_is ∙ quad_is order q small ∙ q_is) (ap (map (quad_of order)) pushed ∙ map-append (quad_of order) packed (key ∷ []))
+
+-- the key of one more quad
+pub keys_more : (order : SortOrder) (quads : List NumQuad) (i : ℕ) (d : NumQuad) (old keys longer : List ℕ) (key : ℕ)
+    → i < length quads → IsSmall (get_or quads i d) → map (quad_of order) keys ≡ map (quad_of order) old ++ take i quads
+    → key ≡ key_of order (get_or quads i d) → longer ≡ keys ++ key ∷ [] → map (quad_of order) longer ≡ map (quad_of order) old ++ take (i + 1) quads
+keys_more order quads i d old keys longer key low small was key_is pushed =
+    let q = get_or quads i d in
+    let f = quad_of order in
+    let is : f key ≡ q = ap f key_is ∙ quad_is order q small in
+    ap (map f) pushed ∙ map-append f keys (key ∷ []) ∙ (λ j. was j ++ is j ∷ []) ∙ append_assoc (map f old) (take i quads) (q ∷ [])
+    ∙ ap (λ r. map f old ++ r) (sym (take_more quads i d low))

@@ -82,6 +82,11 @@ sorted_gos xs h = sorted_front by_gos (λ a b. nat_cmp a.p b.p) xs h
 pub sorted_go : (xs : List NumQuad) → IsSorted by_gosp xs → IsSorted by_go xs
 sorted_go xs h = sorted_front by_go (λ a b. nat_cmp a.s b.s) xs (sorted_gos xs h)
 
+pub sorted_by_g : (order : SortOrder) (xs : List NumQuad) → IsSorted (order_cmp order) xs → IsSorted by_g xs
+sorted_by_g Gspo xs h = sorted_g xs h
+sorted_by_g Gpos xs h = sorted_front by_g (λ a b. nat_cmp a.p b.p) xs (sorted_gp xs h)
+sorted_by_g Gosp xs h = sorted_front by_g (λ a b. nat_cmp a.o b.o) xs (sorted_go xs h)
+
 -- ---- agreement
 
 pub nat_ties : (n m : ℕ) → is_eq (nat_cmp n m) ≡ nat_eq n m

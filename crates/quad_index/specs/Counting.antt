@@ -1,7 +1,5 @@
 -- The counts of an index that is not built.
-use Rattle.std.specs.Prelude.{◌≡◌, ℕ, suc, ◌||◌, cond, List, [], ◌∷◌, length, nat_eq, IsPermutation, IsSorted}
-use Rattle.std.specs.List.{dedup}
-use Rattle.std.specs.Ordering.{nat_cmp}
+use Rattle.std.specs.Prelude.{◌≡◌, ℕ, suc, ◌||◌, cond, List, [], ◌∷◌, length, nat_eq, IsPermutation}
 use Rattle.algebra_model.specs.Bag.{without_repeats}
 use Rattle.dict_core.specs.declared.num_quad.NumQuad.{NumQuad}
 use Rattle.dict_core.specs.Equality.{quad_eq}
@@ -25,18 +23,10 @@ PartsCountTheQuads =
     → counts.graphs ≡ length (without_repeats nat_eq (graph_names quads))
     → IsCountOf quads counts
 
--- Words that only private clauses cite.
+-- A word that only a private clause cites.
 
 -- the number of graph names in the keys that differ from the last name before them; no name is 0
 abbrev pub names_after : ℕ → List ℕ → ℕ
 names_after last [] = 0
 names_after last (key ∷ keys) =
     cond (nat_eq (graph_key_of key) 0 || nat_eq (graph_key_of key) last) (names_after last keys) (suc (names_after (graph_key_of key) keys))
-
--- These are the counts of the keys without repeats, in their order.
-pub record IsCountOfKeys (keys : List ℕ) (counts : IndexCounts) : Type 0 where
-  pub sorted_keys : List ℕ
-  pub moved : IsPermutation keys sorted_keys
-  pub sorted : IsSorted nat_cmp sorted_keys
-  pub key_count : counts.quads ≡ length (dedup nat_eq sorted_keys)
-  pub name_count : counts.graphs ≡ names_after 0 (dedup nat_eq sorted_keys)

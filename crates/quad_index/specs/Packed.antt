@@ -1,6 +1,6 @@
 -- A quad whose numbers are small as one number: four places of 32 bits, the graph name in the highest,
 -- so that the order of the numbers is the order of the quads. Only private clauses use these definitions.
-use Rattle.std.specs.Prelude.{ℕ, zero, suc, ◌+◌, ◌*◌, ◌/◌, ◌%◌, ◌^◌, ◌<◌, Option, None, Some}
+use Rattle.std.specs.Prelude.{ℕ, zero, suc, ◌+◌, ◌*◌, ◌/◌, ◌%◌, ◌^◌, ◌<◌, Option, None, Some, List, All}
 use Rattle.std.specs.Option.{ForSome}
 use Rattle.dict_core.specs.declared.num_quad.NumQuad.{NumQuad}
 use Rattle.quad_index.specs.declared.sort_order.SortOrder.{SortOrder}
@@ -52,3 +52,7 @@ abbrev pub quad_of : SortOrder → ℕ → NumQuad
 quad_of order key =
     quad_of_places order (graph_of (graph_key_of key)) (key / 2 ^ 32 / 2 ^ 32 % 2 ^ 32)
     (key / 2 ^ 32 % 2 ^ 32) (key % 2 ^ 32)
+
+-- the numbers are keys: they have 128 bits
+abbrev pub AreKeys : List ℕ → Type 0
+AreKeys keys = All (λ key. key < 2 ^ 128) keys

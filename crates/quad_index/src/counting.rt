@@ -1,9 +1,12 @@
 //! The counts of an index that is not built.
-ghost use Rattle.std.specs.Prelude.{◌≡◌, ◌≤◌, length, IfOk};
-ghost use Rattle.quad_index.specs.Counting.{IsCountOf, IsCountOfKeys, names_after};
+ghost use Rattle.std.specs.Prelude.{◌≡◌, ◌≤◌, length, map, IfOk};
+ghost use Rattle.quad_index.specs.Counting.{IsCountOf, names_after};
+ghost use Rattle.quad_index.specs.Packed.{quad_of};
+ghost use Rattle.quad_index.specs.declared.sort_order.SortOrder.{SortOrder};
 
 use crate::index::names_of;
-use crate::packed::{graph_key_of, keys_of};
+use crate::packed::{graph_key_of, keys_fit};
+use crate::quad_list::{QuadList, Stored};
 use crate::quads::Quads;
 use crate::sort_order::{SortOrder, sort_once};
 use dict_core::NumQuad;
@@ -20,28 +23,27 @@ pub struct IndexCounts {
 
 /// Counts the quads and the graph names of the index of these quads. A repeated quad counts once.
 ///
-/// The index is not built. If all numbers can be packed, one list of packed keys is sorted in place, and the
-/// quads are freed before.
+/// The index is not built. The list itself is sorted.
 ///
 /// # Errors
 /// `AllocError` if an allocation fails. The list is dropped.
-pub fn count_quads(alloc: Global, quads: Vec<NumQuad>) -> Result<IndexCounts, AllocError>
-    ensures counts { IfOk result (IsCountOf quads.items) }
+pub fn count_quads(alloc: Global, quads: QuadList) -> Result<IndexCounts, AllocError>
+    ensures counts { IfOk result (IsCountOf quads) }
 {
-    match keys_of(alloc, quads.as_slice(), SortOrder::Gspo)? {
-        Some(keys) => {
-            drop(quads);
-            count_keys(keys)
-        }
-        None => count_plain(alloc, quads),
+    match quads.into_stored() {
+        Stored::Packed(keys, _) => count_keys(keys),
+        Stored::Plain(list) => count_plain(alloc, list),
     }
 }
 
-/// Counts the quads and the graph names of these keys, in the first order.
+/// Counts the quads that have these keys, and their graph names. The order of the keys does not matter, since the graph
+/// name is in the highest place in each order.
 pub(crate) fn count_keys(keys: Vec<u128>) -> Result<IndexCounts, AllocError>
-    ensures counts { IfOk result (IsCountOfKeys keys.items) }
+    ensures counts { IfOk result (λ counts. (order : SortOrder)
+        → IsCountOf (map (quad_of order) keys.items) counts) }
 {
     let mut keys = keys;
+    keys_fit(keys.as_slice());
     keys.sort()?;
     keys.dedup();
     Ok(IndexCounts {

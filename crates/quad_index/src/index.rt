@@ -60,10 +60,12 @@ impl Index {
         ensures each_once { IfOk result
             (λ index. IsPermutation (without_repeats quad_eq quads.items) index) }
     {
-        let quads = quads.as_slice();
-        let gspo = sorted_list(alloc, quads, SortOrder::Gspo)?;
-        let gpos = sorted_list(alloc, quads, SortOrder::Gpos)?;
-        let gosp = sorted_list(alloc, quads, SortOrder::Gosp)?;
+        let mut list = QuadList::new(alloc);
+        list.extend(alloc, quads.as_slice())?;
+        drop(quads);
+        let gspo = sorted_list(alloc, &list, SortOrder::Gspo)?;
+        let gpos = sorted_list(alloc, &list, SortOrder::Gpos)?;
+        let gosp = sorted_list(alloc, &list, SortOrder::Gosp)?;
         Index::of_lists(alloc, gspo, gpos, gosp)
     }
 

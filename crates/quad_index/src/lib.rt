@@ -5,8 +5,8 @@
 //! may be sorted in parallel. [`count_quads`] counts the quads and graph names of an index without building it.
 //! [`count_part`] and [`count_names`] count them in parts, in parallel.
 //!
-//! A [`QuadList`] holds its quads as numbers of 16 bytes, unless a number of a quad is too large. [`Quads`]
-//! borrows a part of a list, and returns its quads one by one.
+//! A [`QuadList`] holds its quads as numbers of 16 bytes, unless a number of a quad is too large. It is filled by
+//! [`QuadList::extend`]. [`Quads`] borrows a part of a list, and returns its quads one by one.
 //!
 //! [`Index::scan`] returns exactly the quads of one graph that have the given numbers at the given
 //! places, each once. Its contract says that they are, in some order, the quads of the index that

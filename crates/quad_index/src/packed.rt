@@ -2,10 +2,10 @@
 //!
 //! Four numbers of 32 bits are packed into a key of 128 bits. The order of the keys is the order of the quads.
 //! Keys take less memory than quads, and are sorted several times faster.
-ghost use Rattle.std.specs.Prelude.{◌≡◌, true, map, All, IfOk, IfSome, IsPermutation, IsSorted};
+ghost use Rattle.std.specs.Prelude.{◌≡◌, ◌++◌, true, map, All, IfOk, IsPermutation, IsSorted, OnErr, OnOk};
 ghost use Rattle.algebra_model.specs.Bag.{IsWithoutRepeats, without_repeats};
 ghost use Rattle.dict_core.proofs.NumQuadLaws.{quad_eq};
-ghost use Rattle.quad_index.specs.Packed.{IsSmall, graph_key_of, key_of, quad_of};
+ghost use Rattle.quad_index.specs.Packed.{AreKeys, IsSmall, graph_key_of, key_of, quad_of};
 ghost use Rattle.quad_index.specs.SortOrder.{order_cmp};
 
 use crate::sort_order::SortOrder;
@@ -18,53 +18,130 @@ const PLACE: u128 = 1 << 32;
 /// The least number that is not packed.
 const TOO_LARGE: u64 = 0xFFFF_FFFF;
 
-/// Packs the quads into keys in this order, each once. Returns `None` if a number of a quad is 2^32 - 1 or more.
+/// Returns the keys of the same quads in another order, sorted, each once.
 ///
 /// # Errors
 /// `AllocError` if an allocation fails.
 pub(crate) fn sorted_keys(
     alloc: Global,
-    quads: &[NumQuad],
+    keys: &[u128],
+    from: SortOrder,
     order: SortOrder,
-) -> Result<Option<Vec<u128>>, AllocError>
-    ensures sorted { IfOk result (λ found. IfSome found
-        (λ keys. IsSorted (order_cmp order) (map (quad_of order) keys.items))) }
-    ensures each_once { IfOk result (λ found. IfSome found
-        (λ keys. IsPermutation (without_repeats quad_eq quads.now) (map (quad_of order) keys.items))) }
-    ensures distinct { IfOk result (λ found. IfSome found
-        (λ keys. IsWithoutRepeats quad_eq (map (quad_of order) keys.items))) }
+) -> Result<Vec<u128>, AllocError>
+    ensures sorted { IfOk result
+        (λ sorted. IsSorted (order_cmp order) (map (quad_of order) sorted.items)) }
+    ensures each_once { IfOk result
+        (λ sorted. IsPermutation (without_repeats quad_eq (map (quad_of from) keys.now))
+        (map (quad_of order) sorted.items)) }
+    ensures distinct { IfOk result
+        (λ sorted. IsWithoutRepeats quad_eq (map (quad_of order) sorted.items)) }
 {
-    let Some(mut keys) = keys_of(alloc, quads, order)? else {
-        return Ok(None);
-    };
-    keys.sort()?;
-    keys.dedup();
-    keys.shrink_to_fit();
-    Ok(Some(keys))
+    let mut sorted = packed_anew(alloc, keys, from, order)?;
+    keys_fit(sorted.as_slice());
+    sorted.sort()?;
+    sorted.dedup();
+    sorted.shrink_to_fit();
+    Ok(sorted)
 }
 
-/// Packs the quads into keys. Returns `None` if a number is too large for its place.
-pub(crate) fn keys_of(
+/// Returns the keys of the same quads in another order.
+fn packed_anew(
     alloc: Global,
-    quads: &[NumQuad],
+    keys: &[u128],
+    from: SortOrder,
     order: SortOrder,
-) -> Result<Option<Vec<u128>>, AllocError>
-    ensures keys { IfOk result
-        (λ found. IfSome found (λ keys. keys.items ≡ map (key_of order) quads.now)) }
-    ensures small { IfOk result (λ found. IfSome found (λ _. All IsSmall quads.now)) }
+) -> Result<Vec<u128>, AllocError>
+    ensures same { IfOk result
+        (λ packed. map (quad_of order) packed.items ≡ map (quad_of from) keys.now) }
 {
-    let mut keys = Vec::with_capacity(alloc, quads.len())?;
+    if is_same_order(from, order) {
+        return Vec::from_slice(alloc, keys);
+    }
+    let mut packed = Vec::with_capacity(alloc, keys.len())?;
+    for key in keys {
+        packed.push_reserved(key_of(order, &quad_of(from, *key)));
+    }
+    Ok(packed)
+}
+
+/// Returns whether two orders are the same.
+fn is_same_order(a: SortOrder, b: SortOrder) -> bool
+    ensures same { result ≡ true → a ≡ b }
+{
+    a == b
+}
+
+/// Does nothing. Says that each number of the type `u128` is a key.
+pub(crate) fn keys_fit(_keys: &[u128])
+    ensures fit { AreKeys _keys.now }
+{}
+
+/// Appends the keys of quads.
+///
+/// # Errors
+/// `AllocError` if an allocation fails. The keys are unchanged.
+pub(crate) fn push_keys(
+    keys: &mut Vec<u128>,
+    order: SortOrder,
+    quads: &[NumQuad],
+) -> Result<(), AllocError>
+    requires small { All IsSmall quads.now }
+    ensures added { OnOk result
+        (map (quad_of order) keys.new.items ≡ map (quad_of order) keys.old.items ++ quads.now) }
+    ensures unchanged { OnErr result (keys.new.items ≡ keys.old.items) }
+{
+    keys.reserve(quads.len())?;
     for quad in quads {
-        if !is_small(quad) {
-            return Ok(None);
-        }
         keys.push_reserved(key_of(order, quad));
     }
-    Ok(Some(keys))
+    Ok(())
+}
+
+/// Returns the quads of keys, followed by further quads.
+///
+/// # Errors
+/// `AllocError` if an allocation fails.
+pub(crate) fn unpacked(
+    alloc: Global,
+    keys: &[u128],
+    order: SortOrder,
+    further: &[NumQuad],
+) -> Result<Vec<NumQuad>, AllocError>
+    ensures quads { IfOk result
+        (λ list. list.items ≡ map (quad_of order) keys.now ++ further.now) }
+{
+    let mut list = Vec::new(alloc);
+    push_quads(&mut list, keys, order)?;
+    list.extend_from_slice(further)?;
+    Ok(list)
+}
+
+/// Appends the quads of keys.
+fn push_quads(list: &mut Vec<NumQuad>, keys: &[u128], order: SortOrder) -> Result<(), AllocError>
+    ensures added { OnOk result
+        (list.new.items ≡ list.old.items ++ map (quad_of order) keys.now) }
+{
+    list.reserve(keys.len())?;
+    for key in keys {
+        list.push_reserved(quad_of(order, *key));
+    }
+    Ok(())
+}
+
+/// Returns whether each number of each quad fits into its place in a key.
+pub(crate) fn are_small(quads: &[NumQuad]) -> bool
+    ensures small { result ≡ true → All IsSmall quads.now }
+{
+    for quad in quads {
+        if !is_small(quad) {
+            return false;
+        }
+    }
+    true
 }
 
 /// Returns whether each number fits into its place in a key.
-pub(crate) fn is_small(quad: &NumQuad) -> bool
+fn is_small(quad: &NumQuad) -> bool
     ensures small { result ≡ true → IsSmall quad.now }
 {
     quad.g.unwrap_or(0) < TOO_LARGE
@@ -73,7 +150,8 @@ pub(crate) fn is_small(quad: &NumQuad) -> bool
         && quad.o < TOO_LARGE
 }
 
-pub(crate) fn key_of(order: SortOrder, quad: &NumQuad) -> u128
+/// Returns the key of a quad in this order.
+fn key_of(order: SortOrder, quad: &NumQuad) -> u128
     requires small { IsSmall quad.now }
     ensures key { result ≡ key_of order quad.now }
 {

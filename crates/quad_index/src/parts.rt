@@ -2,17 +2,18 @@
 //!
 //! Each quad is in one of [`PARTS`] parts. So the distinct quads of the parts are, together, the distinct quads, and
 //! nothing is merged.
-ghost use Rattle.std.specs.Prelude.{◌≡◌, ◌||◌, ℕ, length, filter, map, nat_eq, All, IfOk, IfSome, OnOk};
+ghost use Rattle.std.specs.Prelude.{◌≡◌, ◌||◌, ℕ, length, filter, map, nat_eq, IfOk, OnOk};
 ghost use Rattle.std.specs.List.{list_any};
 ghost use Rattle.algebra_model.specs.Bag.{without_repeats};
 ghost use Rattle.dict_core.specs.Equality.{quad_eq};
-ghost use Rattle.quad_index.specs.declared.sort_order.SortOrder.TheVariants.{Gspo};
 ghost use Rattle.quad_index.specs.Matching.{graph_names};
-ghost use Rattle.quad_index.specs.Packed.{IsSmall, key_of};
+ghost use Rattle.quad_index.specs.Packed.{quad_of};
 ghost use Rattle.quad_index.specs.Parts.{count_in_part, is_in, part_of};
 
 use crate::counting::{count_keys, count_plain};
-use crate::packed::{is_small, key_of};
+use crate::packed::quad_of;
+use crate::quad_list::{QuadList, Stored};
+use crate::quads::Quads;
 use crate::sort_order::SortOrder;
 use dict_core::NumQuad;
 use std::alloc::{AllocError, Global};
@@ -33,12 +34,14 @@ const LIMIT: u64 = 1 << 32;
 ///
 /// # Errors
 /// `AllocError` if an allocation fails.
-pub fn count_part(alloc: Global, quads: &[NumQuad], part: u64) -> Result<u64, AllocError>
+pub fn count_part(alloc: Global, quads: &QuadList, part: u64) -> Result<u64, AllocError>
     ensures count { IfOk result (λ n. n ≡ count_in_part part quads.now) }
 {
-    let counts = match keys_in_part(alloc, quads, part)? {
-        Some(keys) => count_keys(keys)?,
-        None => count_plain(alloc, quads_in_part(alloc, quads, part)?)?,
+    let counts = match &quads.stored {
+        Stored::Packed(keys, order) => {
+            count_keys(keys_in_part(alloc, keys.as_slice(), *order, part)?)?
+        }
+        Stored::Plain(list) => count_plain(alloc, quads_in_part(alloc, list.as_slice(), part)?)?,
     };
     Ok(counts.quads)
 }
@@ -47,11 +50,11 @@ pub fn count_part(alloc: Global, quads: &[NumQuad], part: u64) -> Result<u64, Al
 ///
 /// # Errors
 /// `AllocError` if an allocation fails.
-pub fn count_names(alloc: Global, quads: &[NumQuad]) -> Result<u64, AllocError>
+pub fn count_names(alloc: Global, quads: &QuadList) -> Result<u64, AllocError>
     ensures count { IfOk result
         (λ n. n ≡ length (without_repeats nat_eq (graph_names quads.now))) }
 {
-    let mut names = some_names(alloc, quads)?;
+    let mut names = some_names(alloc, &quads.quads())?;
     names.sort()?;
     names.dedup();
     Ok(names.len() as u64)
@@ -65,27 +68,23 @@ fn part_of(quad: &NumQuad) -> u64
     (quad.s % LIMIT + quad.o % LIMIT) / BLOCK % PARTS
 }
 
-/// Packs the quads of a part into keys. Returns `None` if a number of one of them is too large for its place.
+/// Returns the keys of the quads of a part.
 fn keys_in_part(
     alloc: Global,
-    quads: &[NumQuad],
+    keys: &[u128],
+    order: SortOrder,
     part: u64,
-) -> Result<Option<Vec<u128>>, AllocError>
-    ensures keys { IfOk result (λ found. IfSome found
-        (λ keys. keys.items ≡ map (key_of Gspo) (filter (is_in part) quads.now))) }
-    ensures small { IfOk result (λ found. IfSome found
-        (λ _. All IsSmall (filter (is_in part) quads.now))) }
+) -> Result<Vec<u128>, AllocError>
+    ensures keys { IfOk result (λ found. map (quad_of order) found.items
+        ≡ filter (is_in part) (map (quad_of order) keys.now)) }
 {
-    let mut keys = Vec::new(alloc);
-    for quad in quads {
-        if part_of(quad) == part {
-            if !is_small(quad) {
-                return Ok(None);
-            }
-            keys.push(key_of(SortOrder::Gspo, quad))?;
+    let mut found = Vec::new(alloc);
+    for key in keys {
+        if part_of(&quad_of(order, *key)) == part {
+            found.push(*key)?;
         }
     }
-    Ok(Some(keys))
+    Ok(found)
 }
 
 /// Returns the quads of a part.
@@ -102,13 +101,13 @@ fn quads_in_part(alloc: Global, quads: &[NumQuad], part: u64) -> Result<Vec<NumQ
 }
 
 /// Returns the graph names. A name that is also that of the quad before is not repeated.
-fn some_names(alloc: Global, quads: &[NumQuad]) -> Result<Vec<u64>, AllocError>
+fn some_names(alloc: Global, quads: &Quads<'_>) -> Result<Vec<u64>, AllocError>
     ensures same { IfOk result (λ names. (n : ℕ)
         → list_any (nat_eq n) names.items ≡ list_any (nat_eq n) (graph_names quads.now)) }
 {
     let mut names = Vec::new(alloc);
-    for quad in quads {
-        if let Some(name) = quad.g {
+    for place in 0..quads.len() {
+        if let Some(name) = quads.get(place).g {
             add_name(&mut names, name)?;
         }
     }

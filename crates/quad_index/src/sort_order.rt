@@ -9,7 +9,7 @@ use std::alloc::{AllocError, Global};
 
 /// An order of quads: by the graph, with the default graph first, and then by the places that the
 /// name lists.
-#[derive(Clone, Copy)]
+#[derive(Clone, Copy, PartialEq, Eq)]
 pub enum SortOrder {
     /// Graph, subject, predicate, object.
     Gspo,

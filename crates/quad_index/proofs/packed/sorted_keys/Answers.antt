@@ -1,20 +1,18 @@
-use Rattle.std.proofs.Common.{ℕ, List, map, nat_eq, ap, ◌∙◌}
+use Rattle.std.proofs.Common.{ℕ, List, map, nat_eq, ap, ◌∙◌, subst, IsPermutation}
 use Rattle.std.proofs.lemmas.List.Filters.{dedup_is}
-use Rattle.quad_index.specs.Packed.{quad_of}
+use Rattle.algebra_model.specs.Bag.{without_repeats}
+use Rattle.dict_core.specs.declared.num_quad.NumQuad.{NumQuad}
+use Rattle.dict_core.proofs.NumQuadLaws.{quad_eq}
+use Rattle.quad_index.specs.Packed.{AreKeys, quad_of}
 use Rattle.quad_index.proofs.PackedLaws.{packed_list}
 use Rattle.quad_index.proofs.packed.sorted_keys.Goals as goal
 
-pub returns-clause-sorted : goal.returns-clause-sorted
-returns-clause-sorted c =
-    (packed_list c.args.order c.args.quads.now _ _ _ (rw c.in-Some.is at c.in_ok-keys.ensures.small) (rw c.in-Some.is at c.in_ok-keys.ensures.keys) c.sort.ensures.permutation c.in_ok-sort.ensures.sorted
-    (ap (λ (ks : List ℕ). map (quad_of c.args.order) ks) (c.shrink_to_fit.ensures.items ∙ dedup_is nat_eq _ _ c.dedup.ensures.filtered))).sorted
-
-pub returns-clause-each_once : goal.returns-clause-each_once
-returns-clause-each_once c =
-    (packed_list c.args.order c.args.quads.now _ _ _ (rw c.in-Some.is at c.in_ok-keys.ensures.small) (rw c.in-Some.is at c.in_ok-keys.ensures.keys) c.sort.ensures.permutation c.in_ok-sort.ensures.sorted
-    (ap (λ (ks : List ℕ). map (quad_of c.args.order) ks) (c.shrink_to_fit.ensures.items ∙ dedup_is nat_eq _ _ c.dedup.ensures.filtered))).each_once
-
-pub returns-clause-distinct : goal.returns-clause-distinct
-returns-clause-distinct c =
-    (packed_list c.args.order c.args.quads.now _ _ _ (rw c.in-Some.is at c.in_ok-keys.ensures.small) (rw c.in-Some.is at c.in_ok-keys.ensures.keys) c.sort.ensures.permutation c.in_ok-sort.ensures.sorted
-    (ap (λ (ks : List ℕ). map (quad_of c.args.order) ks) (c.shrink_to_fit.ensures.items ∙ dedup_is nat_eq _ _ c.dedup.ensures.filtered))).distinct
+pub returns : goal.returns
+returns c =
+    let f = quad_of c.args.order in
+    let p = packed_list c.args.order c.in_ok-sorted.sorted.items c.sort.new.self.items _ (subst AreKeys c.as_slice.ensures.value c.keys_fit.ensures.fit) c.sort.ensures.permutation c.in_ok-sort.ensures.sorted
+    (ap (λ (ks : List ℕ). map f ks) (c.shrink_to_fit.ensures.items ∙ dedup_is nat_eq _ _ c.dedup.ensures.filtered)) in record {
+      sorted = p.sorted;
+      each_once = subst (λ (qs : List NumQuad). IsPermutation (without_repeats quad_eq qs) (map f c.shrink_to_fit.new.self.items)) c.in_ok-sorted.ensures.same p.each_once;
+      distinct = p.distinct;
+    }
