@@ -5,3 +5,4 @@ pub mod StatementSteps
 pub mod AddingLaws
 pub mod KnownLaws
 pub mod RelevanceSteps
+pub mod RenumberSteps

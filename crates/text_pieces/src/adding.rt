@@ -1,49 +1,49 @@
 //! Pieces that were read against a dictionary, added in order.
-ghost use Rattle.std.specs.Prelude.{◌≡◌, ◌++◌, ℕ, List, true, map, OnOk, OnErr, IfOk};
+ghost use Rattle.std.specs.Prelude.{◌≡◌, ◌++◌, ℕ, List, true, map, OnErr, IfOk};
 ghost use Rattle.keyed_hash.specs.Hashing.{hash_of};
 ghost use Rattle.rdf_core.specs.QuadParts.{QuadParts};
+ghost use Rattle.dict_core.specs.declared.num_quad.NumQuad.{NumQuad};
 ghost use Rattle.text_pieces.specs.Forms.{AreNumberedBy};
 ghost use Rattle.text_pieces.specs.Pieces.{AreAdded, AreGrown, IsPieceOf};
 
 use crate::hashes::{count_lacking, text_hashes};
 use crate::new_texts::NewTexts;
-use crate::renumbering::append_renumbered;
+use crate::renumbering::renumbered_list;
 use crate::text_piece::TextPiece;
 use dict_core::NumQuad;
 use keyed_hash::HashState;
 use std::alloc::{AllocError, Global};
 use text_dict::TextDict;
 
-/// Adds a piece after those that were added before. Appends its new texts to the dictionary, and its quads, with the
-/// numbers of the dictionary, to the list.
+/// Adds a piece after those that were added before. Appends its new texts to the dictionary. Returns its quads, in order,
+/// with the numbers of the dictionary.
 ///
-/// The piece may have been read against an earlier state of the dictionary.
+/// The piece may have been read against an earlier state of the dictionary. The quads that were numbered before, followed
+/// by these, are numbered by the dictionary.
 ///
 /// # Errors
-/// `AllocError` if an allocation fails. Dictionary and list are unchanged.
+/// `AllocError` if an allocation fails. The dictionary is unchanged.
 pub fn add_piece(
     alloc: Global,
     dict: &mut TextDict,
-    all: &mut Vec<NumQuad>,
     piece: TextPiece,
-) -> Result<(), AllocError>
+) -> Result<Vec<NumQuad>, AllocError>
     ensures grown { AreGrown dict.old.texts dict.new.texts }
-    ensures numbered { OnOk result ((earlier : List (List ℕ)) (done quads : List QuadParts)
-        → AreGrown earlier dict.old.texts → IsPieceOf earlier quads piece
-        → AreNumberedBy done dict.old.texts all.old.items
-        → AreNumberedBy (done ++ quads) dict.new.texts all.new.items) }
+    ensures numbered { IfOk result (λ added. (earlier : List (List ℕ))
+        → AreGrown earlier dict.old.texts
+        → (done quads : List QuadParts) → IsPieceOf earlier quads piece
+        → (before : List NumQuad) → AreNumberedBy done dict.old.texts before
+        → AreNumberedBy (done ++ quads) dict.new.texts (before ++ added.items)) }
     ensures unchanged { OnErr result (dict.new.texts ≡ dict.old.texts) }
-    ensures unchanged_quads { OnErr result (all.new.items ≡ all.old.items) }
 {
-    all.reserve(piece.quads.len())?;
-    let numbers = add_all(alloc, dict, &piece.new)?;
-    append_renumbered(
-        all,
-        piece.base as u64,
-        numbers.as_slice(),
-        piece.quads.as_slice(),
-    );
-    Ok(())
+    let TextPiece {
+        base,
+        new,
+        quads,
+        ..
+    } = piece;
+    let numbers = add_all(alloc, dict, &new)?;
+    Ok(renumbered_list(quads, base as u64, numbers.as_slice()))
 }
 
 /// Adds texts, in order. Returns their numbers. On error the dictionary is unchanged.

@@ -1,5 +1,5 @@
 //! Quads with other numbers.
-ghost use Rattle.std.specs.Prelude.{◌≡◌, ◌+◌, ◌≤◌, ◌++◌, map, get_or, length, vec_len, vec_capacity, IfOk};
+ghost use Rattle.std.specs.Prelude.{◌≡◌, map, get_or, IfOk};
 ghost use Rattle.text_pieces.specs.Pieces.{renumbered, renumbered_quad};
 
 use dict_core::NumQuad;
@@ -46,20 +46,22 @@ fn renumbered_quad(base: u64, numbers: &[u64], quad: &NumQuad) -> NumQuad
     }
 }
 
-/// Appends the quads with such numbers.
-pub(crate) fn append_renumbered(
-    all: &mut Vec<NumQuad>,
-    base: u64,
-    numbers: &[u64],
-    quads: &[NumQuad],
-)
-    requires room { vec_len all.old + length quads.now ≤ vec_capacity all.old }
-    ensures appended { all.new.items ≡ all.old.items
-        ++ map (renumbered_quad base numbers.now) quads.now }
+/// Gives the quads such numbers.
+fn renumber(quads: &mut [NumQuad], base: u64, numbers: &[u64])
+    ensures renumbered { quads.new ≡ map (renumbered_quad base numbers.now) quads.old }
 {
-    for quad in quads {
-        all.push_reserved(renumbered_quad(base, numbers, quad));
+    for quad in quads.iter_mut() {
+        *quad = renumbered_quad(base, numbers, quad);
     }
+}
+
+/// Returns the quads of a list with such numbers, in the same memory.
+pub(crate) fn renumbered_list(quads: Vec<NumQuad>, base: u64, numbers: &[u64]) -> Vec<NumQuad>
+    ensures value { result.items ≡ map (renumbered_quad base numbers.now) quads.items }
+{
+    let mut list = quads;
+    renumber(list.as_mut_slice(), base, numbers);
+    list
 }
 
 /// Returns the quads with the number at each of their places.
@@ -71,7 +73,6 @@ pub(crate) fn renumbered_quads(
     ensures value { IfOk result
         (λ v. v.items ≡ map (renumbered_quad 0 numbers.now) quads.now) }
 {
-    let mut all = Vec::with_capacity(alloc, quads.len())?;
-    append_renumbered(&mut all, 0, numbers, quads);
-    Ok(all)
+    let all = Vec::from_slice(alloc, quads)?;
+    Ok(renumbered_list(all, 0, numbers))
 }
