@@ -30,11 +30,11 @@ pub some_store : (filter : QuadFilter) (ls texts : List (List ℕ)) (numbered : 
 some_store filter ls texts numbered read is =
     all_of_lines filter ls texts numbered (without_repeats quad_eq numbered) read is (IsPermutation-refl (without_repeats quad_eq numbered))
 
-pub counted_lines : (ls : List (List ℕ)) (so_far : Numbered) (quads : List NumQuad) (counts : IndexCounts) (counted : Counted) → so_far.filter.now ≡ All → HasRead so_far ls → quads ≡ so_far.quads.items
+pub counted_lines : (ls : List (List ℕ)) (so_far : Numbered) (quads : List NumQuad) (counts : IndexCounts) (counted : Counted) → so_far.filter.now ≡ All → HasRead so_far ls → quads ≡ so_far.quads
     → IndexHasCounts quads counts → counted.dict ≡ so_far.dict → counted.quads ≡ counts.quads → counted.graphs ≡ counts.graphs → IsCounted ls counted
 counted_lines ls so_far quads counts counted is read same c terms_are quads_are graphs_are = record {
   store = record { dict = read.numbered.numbered.terms; index = c.index };
-  loaded = all_of_lines so_far.filter.now ls so_far.dict.texts so_far.quads.items c.index read.numbered is (same_slice quads so_far.quads.items c.index same c.each_once);
+  loaded = all_of_lines so_far.filter.now ls so_far.dict.texts so_far.quads c.index read.numbered is (same_slice quads so_far.quads c.index same c.each_once);
   counts = record { terms = ap (λ d. d.texts) terms_are ∙ read.numbered.numbered.forms.forms; quads = quads_are ∙ c.quad_count; graphs = graphs_are ∙ c.graph_count };
 }
 
@@ -46,7 +46,7 @@ counted_from a b so_far counted is was count =
 
 pub terms_from : (a b : Option (List ℕ)) (so_far : Numbered) → so_far.filter.now ≡ All → IsReadFrom a b so_far → AreTermsFrom a b so_far.dict
 terms_from a b so_far is was = record {
-  store = record { dict = was.read.numbered.numbered.terms; index = without_repeats quad_eq so_far.quads.items };
-  loaded = record { doc = was.doc; consumed = was.consumed; at_end = was.at_end; loaded = some_store so_far.filter.now (lines was.doc) so_far.dict.texts so_far.quads.items was.read.numbered is };
+  store = record { dict = was.read.numbered.numbered.terms; index = without_repeats quad_eq so_far.quads };
+  loaded = record { doc = was.doc; consumed = was.consumed; at_end = was.at_end; loaded = some_store so_far.filter.now (lines was.doc) so_far.dict.texts so_far.quads was.read.numbered is };
   same = was.read.numbered.numbered.forms.forms;
 }

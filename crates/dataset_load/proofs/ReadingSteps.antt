@@ -174,11 +174,12 @@ pub record AreTaken (old dict : List (List ℕ)) (numbers : List NumQuad) (left 
 pub grown_more : (old dict dict' : List (List ℕ)) → AreGrown old dict → AreGrown dict dict' → AreGrown old dict'
 grown_more old dict dict' a b = (a.0 ++ b.0, b.1 ∙ ap (λ (d : List (List ℕ)). d ++ b.0) a.1 ∙ append_assoc old a.0 b.0)
 
-pub take_step : (old dict dict' : List (List ℕ)) (numbered numbered' : List NumQuad) (piece : TextPiece) (left left' : List TextPiece) (all : List QuadParts)
+pub take_step : (old dict dict' : List (List ℕ)) (numbered added numbered' : List NumQuad) (piece : TextPiece) (left left' : List TextPiece) (all : List QuadParts)
     → AreGrown old dict → AreTaken old dict numbered left all → left ≡ piece ∷ left'
-    → ((earlier : List (List ℕ)) (done quads : List QuadParts) → AreGrown earlier dict → IsPieceOf earlier quads piece → AreNumberedBy done dict numbered → AreNumberedBy (done ++ quads) dict' numbered')
-    → AreTaken old dict' numbered' left' all
-take_step old dict dict' numbered numbered' piece left left' all grown was e taken =
+    → ((earlier : List (List ℕ)) → AreGrown earlier dict → (done quads : List QuadParts) → IsPieceOf earlier quads piece → (before : List NumQuad) → AreNumberedBy done dict before
+    → AreNumberedBy (done ++ quads) dict' (before ++ added))
+    → numbered' ≡ numbered ++ added → AreTaken old dict' numbered' left' all
+take_step old dict dict' numbered added numbered' piece left left' all grown was e taken more =
     by was.each (subst (λ (ps : List TextPiece). ArePiecesOf old was.each ps) e was.looked_up) was.parts
   where
     by : (each : List (List QuadParts)) → ArePiecesOf old each (piece ∷ left') → was.done ++ numbering.joined each ≡ all → AreTaken old dict' numbered' left' all
@@ -186,7 +187,7 @@ take_step old dict dict' numbered numbered' piece left left' all grown was e tak
     by (q ∷ qs) z parts = record {
       done = was.done ++ q;
       each = qs;
-      numbered = taken old was.done q grown z.0 was.numbered;
+      numbered = subst (AreNumberedBy (was.done ++ q) dict') (sym more) (taken old grown was.done q z.0 numbered was.numbered);
       looked_up = z.1;
       parts = append_assoc was.done q (numbering.joined qs) ∙ parts;
     }

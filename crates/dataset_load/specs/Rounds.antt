@@ -37,7 +37,7 @@ pub record AreNumbered (filter : QuadFilter) (lines texts : List (List ℕ)) (nu
 
 -- The quads of these lines that the filter keeps are numbered, and perhaps others of them; and the lines are counted.
 pub record HasRead (so_far : Numbered) (ls : List (List ℕ)) : Type 0 where
-  pub numbered : AreNumbered so_far.filter.now ls so_far.dict.texts so_far.quads.items
+  pub numbered : AreNumbered so_far.filter.now ls so_far.dict.texts so_far.quads
   pub count : so_far.lines ≡ length ls
 
 -- the order of the i-th list of an index

@@ -18,7 +18,7 @@ use crate::numbered::Numbered;
 use crate::sorting::{LISTS, index_of, order_at};
 use crate::store::Store;
 use crate::terms::{part_of, parts_in, read_terms};
-use dict_core::{Dict, NumQuad};
+use dict_core::Dict;
 use piece_pool::{Job, JobFault, OpenGate, Outcome, run_all};
 use quad_index::{QuadList, sorted_list};
 use std::alloc::{AllocError, Global};
@@ -44,7 +44,7 @@ pub enum Built {
 /// The first round: the three lists of the index, and then the first parts of the terms.
 #[derive(Drop)]
 struct FirstRound<'a> {
-    quads: &'a [NumQuad],
+    quads: &'a QuadList,
     texts: &'a TextDict,
     state: RandomState,
 }
@@ -73,7 +73,7 @@ impl<'a> Job for FirstRound<'a> {
 /// Sorts list `i` of the index. After the lists, reads the parts of the terms, in order.
 fn build(
     alloc: Global,
-    quads: &[NumQuad],
+    quads: &QuadList,
     texts: &TextDict,
     state: RandomState,
     i: u64,
@@ -108,7 +108,7 @@ pub(crate) fn store_of<R: Threads + Wait + RandomSource>(
     let context = LoadContext { rt, alloc, workers };
     let state = hash_state(rt)?;
     let Numbered { dict, quads, .. } = so_far;
-    let built = first_round(&context, quads.as_slice(), &dict, state)?;
+    let built = first_round(&context, &quads, &dict, state)?;
     drop(quads);
     let (lists, read) = separated(alloc, built)?;
     let index = index_of(alloc, lists)?;
@@ -120,7 +120,7 @@ pub(crate) fn store_of<R: Threads + Wait + RandomSource>(
 /// Sorts the lists of an index of these quads, and reads the first parts of the terms, in parallel.
 fn first_round<R: Threads + Wait>(
     context: &LoadContext<'_, R>,
-    quads: &[NumQuad],
+    quads: &QuadList,
     texts: &TextDict,
     state: RandomState,
 ) -> Result<Vec<Built>, LoadFault>

@@ -1,7 +1,7 @@
 //! What was read of a document so far.
 
-use dict_core::NumQuad;
 use quad_filter::QuadFilter;
+use quad_index::QuadList;
 use std::alloc::Global;
 use std::hash::RandomState;
 use text_dict::TextDict;
@@ -13,7 +13,7 @@ use text_pieces::Seen;
 pub(crate) struct Numbered<'f> {
     pub(crate) filter: &'f QuadFilter,
     pub(crate) dict: TextDict,
-    pub(crate) quads: Vec<NumQuad>,
+    pub(crate) quads: QuadList,
     pub(crate) lines: u128,
     /// What the pieces of these lines have, also in statements that are left out.
     pub(crate) seen: Seen,
@@ -33,7 +33,7 @@ impl<'f> Numbered<'f> {
         Numbered {
             filter,
             dict: TextDict::new(alloc, state),
-            quads: Vec::new(alloc),
+            quads: QuadList::new(alloc),
             lines: 0,
             seen: Seen {
                 default_graph: false,

@@ -24,10 +24,10 @@ use crate::load_context::LoadContext;
 use crate::load_notes::{LoadListener, NoListener};
 use crate::numbered::Numbered;
 use crate::round_job::RoundJob;
-use dict_core::NumQuad;
 use nquads_core::count_lines;
 use piece_pool::{Gate, OffsetGate, Outcome, PoolFault, run_all_with};
 use quad_filter::QuadFilter;
+use quad_index::QuadList;
 use std::alloc::{AllocError, Global};
 use std::hash::RandomState;
 use std::sync::Wait;
@@ -248,9 +248,9 @@ fn add_read_pieces(
     requires pieces { length pieces.items ≤ most_pieces_of_a_round }
     requires countable { so_far.old.lines ≤ 2 ^ 127 }
     ensures numbered { OnOk result ((done : List QuadParts) (each : List (List QuadParts))
-        → AreNumberedBy done so_far.old.dict.texts so_far.old.quads.items
+        → AreNumberedBy done so_far.old.dict.texts so_far.old.quads
         → ArePiecesOf so_far.old.dict.texts each pieces.items
-        → AreNumberedBy (done ++ joined each) so_far.new.dict.texts so_far.new.quads.items) }
+        → AreNumberedBy (done ++ joined each) so_far.new.dict.texts so_far.new.quads) }
     ensures lines { OnOk result
         (so_far.new.lines ≡ so_far.old.lines + line_total pieces.items) }
     ensures counted { OnOk result
@@ -280,16 +280,17 @@ fn seen_in(before: Seen, pieces: &[TextPiece]) -> Seen {
 fn add_pieces(
     alloc: Global,
     dict: &mut TextDict,
-    quads: &mut Vec<NumQuad>,
+    quads: &mut QuadList,
     pieces: Vec<TextPiece>,
 ) -> Result<(), AllocError>
     ensures numbered { OnOk result ((done : List QuadParts) (each : List (List QuadParts))
-        → AreNumberedBy done dict.old.texts quads.old.items
+        → AreNumberedBy done dict.old.texts quads.old
         → ArePiecesOf dict.old.texts each pieces.items
-        → AreNumberedBy (done ++ joined each) dict.new.texts quads.new.items) }
+        → AreNumberedBy (done ++ joined each) dict.new.texts quads.new) }
 {
     for piece in pieces {
-        add_piece(alloc, dict, quads, piece)?;
+        let added = add_piece(alloc, dict, piece)?;
+        quads.extend(alloc, added.as_slice())?;
     }
     Ok(())
 }

@@ -10,14 +10,14 @@ use Rattle.dataset_load.proofs.building.store_of.Goals as goal
 pub of_parts-requires : goal.of_parts-requires
 of_parts-requires g c =
     let read = c.requires.read.1.numbered in
-    let same = terms_are read.quads c.args.so_far.dict.texts c.args.so_far.quads.items read.numbered c.in_ok-terms.terms c.in_ok-terms.ensures.terms in
-    let sorted = subst (AreSortedLists c.args.so_far.quads.items) (sym c.in_ok-lists.ensures.lists) (rw c.as_slice.ensures.value at c.in_ok-built.ensures.lists) in
-    let reads = index_reads read.quads read.numbered.terms c.args.so_far.quads.items c.in_ok-index.index read.numbered.numbered (c.in_ok-index.ensures.each_once _ sorted) in
+    let same = terms_are read.quads c.args.so_far.dict.texts c.args.so_far.quads read.numbered c.in_ok-terms.terms c.in_ok-terms.ensures.terms in
+    let sorted = subst (AreSortedLists c.args.so_far.quads) (sym c.in_ok-lists.ensures.lists) c.in_ok-built.ensures.lists in
+    let reads = index_reads read.quads read.numbered.terms c.args.so_far.quads c.in_ok-index.index read.numbered.numbered (c.in_ok-index.ensures.each_once _ sorted) in
     record { below = subst (λ d. AreBelow (length d) c.in_ok-index.index) (sym same) reads.1 }
 
 pub returns-clause-loaded : goal.returns-clause-loaded
 returns-clause-loaded g c = λ lines read.
-    let same = terms_are read.numbered.quads c.args.so_far.dict.texts c.args.so_far.quads.items read.numbered.numbered c.in_ok-terms.terms c.in_ok-terms.ensures.terms in
-    let sorted = subst (AreSortedLists c.args.so_far.quads.items) (sym c.in_ok-lists.ensures.lists) (rw c.as_slice.ensures.value at c.in_ok-built.ensures.lists) in
+    let same = terms_are read.numbered.quads c.args.so_far.dict.texts c.args.so_far.quads read.numbered.numbered c.in_ok-terms.terms c.in_ok-terms.ensures.terms in
+    let sorted = subst (AreSortedLists c.args.so_far.quads) (sym c.in_ok-lists.ensures.lists) c.in_ok-built.ensures.lists in
     subst (λ (store : StoreView). IsKeptLoaded c.args.so_far.filter.now lines store) (sym (c.of_parts.ensures.parts ∙ (λ i. record { dict = same i; index = c.in_ok-index.index })))
-    (loaded c.args.so_far.filter.now lines c.args.so_far.dict.texts c.args.so_far.quads.items c.in_ok-index.index read.numbered (c.in_ok-index.ensures.each_once _ sorted))
+    (loaded c.args.so_far.filter.now lines c.args.so_far.dict.texts c.args.so_far.quads c.in_ok-index.index read.numbered (c.in_ok-index.ensures.each_once _ sorted))

@@ -11,6 +11,6 @@ use Rattle.dataset_load.proofs.rounds.add_pieces.Given as goal
 abbrev pub invariant-loop-piece : goal.invariant-loop-piece
 invariant-loop-piece l = record {
   grown : AreGrown l.fn.dict.texts l.dict.texts;
-  taken : (done : List QuadParts) (each : List (List QuadParts)) → AreNumberedBy done l.fn.dict.texts l.fn.quads.items → ArePiecesOf l.fn.dict.texts each l.fn.pieces.items
-      → AreTaken l.fn.dict.texts l.dict.texts l.quads.items (into_iter_items l.piece-iterator) (done ++ joined each);
+  taken : (done : List QuadParts) (each : List (List QuadParts)) → AreNumberedBy done l.fn.dict.texts l.fn.quads → ArePiecesOf l.fn.dict.texts each l.fn.pieces.items
+      → AreTaken l.fn.dict.texts l.dict.texts l.quads (into_iter_items l.piece-iterator) (done ++ joined each);
 }
