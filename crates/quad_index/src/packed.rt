@@ -141,6 +141,7 @@ pub(crate) fn are_small(quads: &[NumQuad]) -> bool
 }
 
 /// Returns whether each number fits into its place in a key.
+#[inline(always)]
 fn is_small(quad: &NumQuad) -> bool
     ensures small { result ≡ true → IsSmall quad.now }
 {
@@ -151,6 +152,7 @@ fn is_small(quad: &NumQuad) -> bool
 }
 
 /// Returns the key of a quad in this order.
+#[inline(always)]
 fn key_of(order: SortOrder, quad: &NumQuad) -> u128
     requires small { IsSmall quad.now }
     ensures key { result ≡ key_of order quad.now }
