@@ -70,7 +70,8 @@ fn add_read(alloc: Global, so_far: &mut NumberedLines, piece: TextPiece) -> Resu
     ensures count { OnOk result (so_far.new.lines ≡ so_far.old.lines + piece.lines) }
 {
     let lines = piece.lines;
-    add_piece(alloc, &mut so_far.texts, &mut so_far.quads, piece)?;
+    let added = add_piece(alloc, &mut so_far.texts, piece)?;
+    so_far.quads.extend_from_slice(added.as_slice())?;
     so_far.lines += lines;
     Ok(())
 }

@@ -13,7 +13,7 @@ use crate::hashed_places::hashes_once;
 use crate::hashing::hash_of_quad;
 use crate::numbering::NumberedLines;
 use dict_core::NumQuad;
-use quad_index::{Quads, SortOrder, sorted_list};
+use quad_index::{QuadList, Quads, SortOrder, sorted_list};
 use std::alloc::{AllocError, Global};
 
 /// Returns the hashes of quads of numbers.
@@ -65,7 +65,9 @@ fn hashes_of_sorted(alloc: Global, terms: &[u64], quads: &[NumQuad]) -> Result<V
         IsPermutation (map (hash_by_numbers terms.now) (without_repeats quad_eq quads.now)) hashes.items) }
     ensures ascending { IfOk result (λ hashes. IsSorted nat_cmp hashes.items) }
 {
-    let list = sorted_list(alloc, quads, SortOrder::Gspo)?;
+    let mut all = QuadList::new(alloc);
+    all.extend(alloc, quads)?;
+    let list = sorted_list(alloc, &all, SortOrder::Gspo)?;
     let mut hashes = hashes_of_list(alloc, terms, &list.quads())?;
     hashes.sort_unstable();
     Ok(hashes)
