@@ -54,14 +54,14 @@ fn joined(alloc: Global, lists: &[Vec<u64>]) -> Result<Vec<u64>, AllocError>
     Ok(numbers)
 }
 
-/// Returns the numbers of some lists in ascending order.
+/// Returns the numbers of some lists in ascending order. The lists are in ascending order themselves, and so the sort merges them.
 fn sorted_numbers(alloc: Global, lists: &[Vec<u64>]) -> Result<Vec<u64>, AllocError>
     ensures sorted { IfOk result (λ numbers. IsSorted nat_cmp numbers.items) }
     ensures same { IfOk result (λ numbers. IsPermutation (numbers_of (items_of lists.now)) numbers.items) }
     ensures fit { OnOk result (FitInEightBytes (numbers_of (items_of lists.now))) }
 {
     let mut numbers = joined(alloc, lists)?;
-    numbers.sort_unstable();
+    numbers.sort()?;
     Ok(numbers)
 }
 
