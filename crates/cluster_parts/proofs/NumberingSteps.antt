@@ -15,8 +15,9 @@ use Rattle.nquads_core.proofs.PieceLaws.{lines_nil}
 use Rattle.piece_cuts.specs.Cuts.{piece_at}
 use Rattle.piece_cuts.specs.Laws.{pieces_from, pieces_of, ArePiecesOf}
 use Rattle.dict_core.specs.NumQuad.{IsBelow}
-use Rattle.quad_filter.specs.declared.filter.QuadFilter.TheVariants.{All}
-use Rattle.quad_filter.proofs.KeptLaws.{all_is_kept}
+use Rattle.quad_filter.specs.declared.filter.QuadFilter.{QuadFilter}
+use Rattle.quad_filter.specs.Filter.{keeps}
+use Rattle.quad_filter.proofs.KeptLaws.{kept_joins}
 use Rattle.text_pieces.specs.declared.text_piece.TextPiece.{TextPiece}
 use Rattle.text_pieces.specs.Forms.{AreNumberedBy}
 use Rattle.text_pieces.specs.Pieces.{AreGrown, IsPieceOf, IsRead}
@@ -28,10 +29,12 @@ use Rattle.cluster_parts.proofs.DocumentLaws.{statements-append}
 
 -- ---- no line is read
 
-pub nothing_is_read : (so_far : NumberedLines) → so_far.texts.texts ≡ [] → so_far.quads.items ≡ [] → so_far.lines ≡ 0 → AreRead so_far []
-nothing_is_read so_far no_texts no_quads no_lines = record {
-  quads = [];
+pub nothing_is_read : (filter : QuadFilter) (so_far : NumberedLines) → so_far.texts.texts ≡ [] → so_far.quads.items ≡ [] → so_far.lines ≡ 0 → AreRead filter so_far []
+nothing_is_read filter so_far no_texts no_quads no_lines = record {
+  all = [];
   statements = refl;
+  quads = [];
+  kept = refl;
   numbered =
       subst (λ l. AreNumberedBy [] l so_far.quads.items) (sym no_texts)
       (subst (λ l. AreNumberedBy [] [] l) (sym no_quads)
@@ -41,12 +44,14 @@ nothing_is_read so_far no_texts no_quads no_lines = record {
 
 -- ---- one more piece
 
-pub read_more : (so_far so_far' : NumberedLines) (before : List (List ℕ)) (bytes : List ℕ) (piece : TextPiece) → AreRead so_far before → IsRead All so_far.texts.texts bytes piece
+pub read_more : (filter : QuadFilter) (so_far so_far' : NumberedLines) (before : List (List ℕ)) (bytes : List ℕ) (piece : TextPiece) → AreRead filter so_far before → IsRead filter so_far.texts.texts bytes piece
     → ((earlier : List (List ℕ)) (done quads : List QuadParts) → AreGrown earlier so_far.texts.texts → IsPieceOf earlier quads piece → AreNumberedBy done so_far.texts.texts so_far.quads.items → AreNumberedBy (done ++ quads) so_far'.texts.texts so_far'.quads.items)
-    → so_far'.lines ≡ so_far.lines + piece.lines → AreRead so_far' (before ++ lines bytes)
-read_more so_far so_far' before bytes piece was read added counted = record {
+    → so_far'.lines ≡ so_far.lines + piece.lines → AreRead filter so_far' (before ++ lines bytes)
+read_more filter so_far so_far' before bytes piece was read added counted = record {
+  all = was.all ++ read.all;
+  statements = statements-append before (lines bytes) was.all read.all was.statements read.statements;
   quads = was.quads ++ read.quads;
-  statements = statements-append before (lines bytes) was.quads read.quads was.statements (subst (HaveStatements (lines bytes)) (sym (all_is_kept read.all read.quads read.kept)) read.statements);
+  kept = kept_joins (keeps filter) was.all was.quads read.all read.quads was.kept read.kept;
   numbered = added so_far.texts.texts was.quads read.quads (grown_same so_far.texts.texts) read.numbered was.numbered;
   count = counted ∙ (λ i. was.count i + read.count i) ∙ sym (length-append before (lines bytes));
 }
@@ -58,10 +63,10 @@ malformed_after (x ∷ xs) ys qs k a b =
     let e : suc (length xs + k) ≡ suc (length xs) + k = omega arith in
     subst (IsFirstMalformed (x ∷ (xs ++ ys))) e ((a.0, a.2), malformed_after xs ys a.1 k a.4 b)
 
-pub bad_after : (so_far : NumberedLines) (before ls : List (List ℕ)) (j k : ℕ) → AreRead so_far before → IsFirstMalformed ls j → k ≡ so_far.lines + j → IsFirstMalformed (before ++ ls) k
-bad_after so_far before ls j k was bad at =
+pub bad_after : (filter : QuadFilter) (so_far : NumberedLines) (before ls : List (List ℕ)) (j k : ℕ) → AreRead filter so_far before → IsFirstMalformed ls j → k ≡ so_far.lines + j → IsFirstMalformed (before ++ ls) k
+bad_after filter so_far before ls j k was bad at =
     let e : length before + j ≡ k = omega (arith, at, was.count) in
-    subst (IsFirstMalformed (before ++ ls)) e (malformed_after before ls was.quads j was.statements bad)
+    subst (IsFirstMalformed (before ++ ls)) e (malformed_after before ls was.all j was.statements bad)
 
 -- ---- how many lines there are
 

@@ -1,5 +1,5 @@
 -- Steps of the loops that make the parts of a block.
-use Rattle.std.proofs.Common.{◌≡◌, ℕ, zero, suc, ◌+◌, ◌<◌, Bool, true, false, cond, nat_eq, ◌||◌, if◌then◌else◌, List, [], ◌∷◌, ◌++◌, length, map, filter, get_or, take, drop, slice_get, codes, Option, Some, None, refl, sym, ap, subst, ◌∙◌, append_assoc, append-nil, length-append, arith, IsPermutation, IsSorted, eq-eqb, ne_eqb}
+use Rattle.std.proofs.Common.{◌≡◌, ℕ, zero, suc, ◌+◌, ◌<◌, ◌≤◌, Bool, true, false, cond, nat_eq, ◌||◌, if◌then◌else◌, List, [], ◌∷◌, ◌++◌, length, map, filter, get_or, take, drop, slice_get, codes, Option, Some, None, refl, sym, ap, subst, ◌∙◌, append_assoc, append-nil, length-append, arith, IsPermutation, IsSorted, eq-eqb, ne_eqb}
 use Rattle.std.proofs.lemmas.List.{length-map, map-append}
 use Rattle.std.specs.Prelude.{filter_map, option_to_list}
 use Rattle.std.specs.Option.{option_map, unwrap_or}
@@ -7,7 +7,7 @@ use Rattle.std.specs.List.{AllByRecursion, IsDistinct, dedup, flat_map, cons_opt
 use Rattle.std.specs.Ordering.{nat_cmp}
 use Rattle.std.proofs.lemmas.Bool.{eqb-true}
 use Rattle.std.proofs.lemmas.Bool.Decides.{Decides-eqb}
-use Rattle.std.proofs.lemmas.List.{take_more, get_or-map}
+use Rattle.std.proofs.lemmas.List.{take_all, take_more, get_or-map}
 use Rattle.std.proofs.lemmas.Option.{slice_get_within, unwrap_or-slice_get}
 use Rattle.std.proofs.lemmas.Grind.{flat_map-append}
 use Rattle.std.proofs.lemmas.List.Elements.{All-nil, filter-append, filter_map-append}
@@ -337,6 +337,28 @@ one_more_line p all key texts quads keys i d text text' low h are below was wrot
     keyed_more p key h.terms quads keys i d text text' low (are ∙ ap (map key) is) (was ∙ ap (λ l. quad_document (filter (λ q. p (key q)) (take i l))) is)
     (wrote ∙ ap (λ t. text ++ (if p (get_or keys i None) then t else [])) (line_is h.terms texts (get_or quads i d) h.forms below))
     ∙ ap (λ l. quad_document (filter (λ q. p (key q)) (take (i + 1) l))) (sym is)
+
+-- one more line of all quads of a block
+pub next_quad : (all : List QuadParts) (texts : List (List ℕ)) (quads : List NumQuad) (i : ℕ) (d : NumQuad) (text text' : List ℕ)
+    → i < length quads → AreNumberedBy all texts quads → IsBelow (length texts) (get_or quads i d)
+    → text ≡ quad_document (take i all) → text' ≡ text ++ line_by_numbers texts (get_or quads i d) → text' ≡ quad_document (take (i + 1) all)
+next_quad all texts quads i d text text' low h below was wrote =
+    let is = sym h.numbered.2 in
+    let xs = quads_at h.terms quads in
+    let x = quad_at h.terms (get_or quads i d) in
+    let inside : i < length xs = omega (arith, low, length-map quads (quad_at h.terms)) in
+    let here : get_or xs i x ≡ x = get_or-map (quad_at h.terms) quads i d x low in
+    let before = was ∙ ap (λ l. quad_document (take i l)) is in
+    wrote ∙ (λ j. before j ++ line_is h.terms texts (get_or quads i d) h.forms below j)
+    ∙ ap (λ t. quad_document (take i xs) ++ t) (sym (append-nil (quad_statement x)))
+    ∙ sym (flat_map-append quad_statement (take i xs) (x ∷ []))
+    ∙ ap quad_document (sym (taken_at xs i x inside here))
+    ∙ ap (λ l. quad_document (take (i + 1) l)) (sym is)
+
+pub all_of_quads : (all : List QuadParts) (texts : List (List ℕ)) (quads : List NumQuad) (n : ℕ) → length quads ≤ n → AreNumberedBy all texts quads → quad_document (take n all) ≡ quad_document all
+all_of_quads all texts quads n enough h =
+    let e = ap length h.numbered.2 in
+    ap quad_document (take_all n all (omega (arith, enough, e, length-map quads (quad_at h.terms))))
 
 -- ---- the keys of quads
 

@@ -4,6 +4,9 @@ use Rattle.std.specs.Prelude.{◌≡◌, ℕ, ◌+◌, ◌<◌, List, [], ◌∷
 use Rattle.rdf_core.specs.QuadParts.{QuadParts}
 use Rattle.nquads_core.specs.Pieces.{HaveStatements}
 use Rattle.dict_core.specs.declared.num_quad.NumQuad.{NumQuad}
+use Rattle.quad_filter.specs.Filter.{keeps}
+use Rattle.quad_filter.specs.Kept.{IsKept}
+use Rattle.quad_filter.specs.declared.filter.QuadFilter.{QuadFilter}
 use Rattle.text_pieces.specs.Forms.{AreNumberedBy}
 use Rattle.cluster_parts.specs.declared.numbering.NumberedLines.{NumberedLines}
 use Rattle.cluster_parts.specs.declared.hashed_places.HashedPlace.{HashedPlace}
@@ -13,10 +16,12 @@ use Rattle.cluster_parts.specs.Hash.{hash_numbers}
 abbrev pub AreQuadsOf : List QuadParts → NumberedLines → Type 0
 AreQuadsOf quads block = AreNumberedBy quads block.texts.texts block.quads.items
 
--- the lines are valid, their quads are numbered, and the lines are counted
-pub record AreRead (block : NumberedLines) (lines : List (List ℕ)) : Type 0 where
+-- the lines are valid, those of their quads that the filter keeps, and perhaps others, are numbered, and the lines are counted
+pub record AreRead (filter : QuadFilter) (block : NumberedLines) (lines : List (List ℕ)) : Type 0 where
+  pub all : List QuadParts
+  pub statements : HaveStatements lines all
   pub quads : List QuadParts
-  pub statements : HaveStatements lines quads
+  pub kept : IsKept (keeps filter) all quads
   pub numbered : AreQuadsOf quads block
   pub count : block.lines ≡ length lines
 

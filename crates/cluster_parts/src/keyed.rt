@@ -40,7 +40,11 @@ fn push_end(out: &mut Vec<u8>, texts: &TextDict, name: Option<u64>) -> Result<()
 }
 
 /// Appends a quad in canonical form.
-fn push_quad(out: &mut Vec<u8>, texts: &TextDict, quad: &NumQuad) -> Result<(), AllocError>
+pub(crate) fn push_quad(
+    out: &mut Vec<u8>,
+    texts: &TextDict,
+    quad: &NumQuad,
+) -> Result<(), AllocError>
     requires below { IsBelow (length texts.now.texts) quad.now }
     ensures appended { OnOk result
         (out.new.items ≡ out.old.items ++ line_by_numbers texts.now.texts quad.now) }

@@ -8,7 +8,7 @@
 //!
 //! [`split_for_terms`] spreads the terms of a block alone. [`first_terms`] finds those that are new in each block of a
 //! partition, and [`keep_terms`] lists the new terms of a block. [`split_quads`] spreads the quads of a block by subject
-//! or by graph name. The laws are in [`laws`].
+//! or by graph name. [`kept_quads`] returns the quads of a block that a query needs. The laws are in [`laws`].
 //!
 //! Texts that one program writes for another are sealed ([`join_sealed`]): a head with the version of the program, a
 //! length and a checksum precede each.
@@ -16,6 +16,7 @@
 
 mod again;
 mod counting;
+mod filtered;
 mod graph_names;
 mod hashed_places;
 mod hashing;
@@ -37,6 +38,7 @@ mod term_parts;
 
 pub use again::split_again;
 pub use counting::count_lines;
+pub use filtered::kept_quads;
 pub use hashing::hash_of;
 pub use keeping::keep_terms;
 pub use key_splits::{QuadKey, split_quads};

@@ -5,6 +5,8 @@ ghost use Rattle.nquads_core.specs.Lines.{lines};
 ghost use Rattle.nquads_core.specs.Pieces.{HaveStatements, IsFirstMalformed};
 ghost use Rattle.nquads_core.specs.declared.fault.PieceFault.TheVariants.{BadLine};
 ghost use Rattle.piece_cuts.specs.Cuts.{AreCuts};
+ghost use Rattle.quad_filter.specs.Filter.{keeps};
+ghost use Rattle.quad_filter.specs.Kept.{IsKept};
 ghost use Rattle.text_pieces.specs.Forms.{AreNumberedBy};
 ghost use Rattle.text_dict.specs.Forms.{IsForm};
 ghost use Rattle.text_pieces.specs.Pieces.{AreGrown, IsPieceOf};
@@ -37,11 +39,12 @@ pub(crate) struct NumberedLines {
 
 impl NumberedLines {
     ghost use Rattle.std.specs.Prelude.{[]};
+    ghost use Rattle.quad_filter.specs.declared.filter.QuadFilter.{QuadFilter};
     ghost use Rattle.cluster_parts.specs.Numbered.{AreRead};
 
     /// Creates the state in which no line is read. Allocates nothing.
     fn new(alloc: Global, state: RandomState) -> NumberedLines
-        ensures none { AreRead result [] }
+        ensures none { (filter : QuadFilter) → AreRead filter result [] }
     {
         NumberedLines {
             texts: TextDict::new(alloc, state),
@@ -87,20 +90,21 @@ fn fault_after(lines: u64, fault: PieceFault) -> PieceFault
     }
 }
 
-/// Reads the lines of a piece, after those that were read before.
+/// Reads the lines of a piece, after those that were read before, and adds the quads that the filter keeps.
 fn add_lines(
     alloc: Global,
     state: RandomState,
+    filter: &QuadFilter,
     so_far: &mut NumberedLines,
     piece: &[u8],
 ) -> Result<(), PieceFault>
     requires room { so_far.old.lines + length piece.now < 2 ^ 64 }
-    ensures read { OnOk result ((before : List (List ℕ)) → AreRead so_far.old before
-        → AreRead so_far.new (before ++ lines piece.now)) }
+    ensures read { OnOk result ((before : List (List ℕ)) → AreRead filter.now so_far.old before
+        → AreRead filter.now so_far.new (before ++ lines piece.now)) }
     ensures bad_line { IfErr result (λ fault. (k : ℕ) → fault ≡ BadLine k
-        → (before : List (List ℕ)) → AreRead so_far.old before → IsFirstMalformed (before ++ lines piece.now) k) }
+        → (before : List (List ℕ)) → AreRead filter.now so_far.old before → IsFirstMalformed (before ++ lines piece.now) k) }
 {
-    let read = match read_lines(alloc, state, &so_far.texts, &QuadFilter::All, piece) {
+    let read = match read_lines(alloc, state, &so_far.texts, filter, piece) {
         Ok(read) => read,
         Err(fault) => return Err(fault_after(so_far.lines, fault)),
     };
@@ -114,12 +118,13 @@ fn add_lines(
 fn number_pieces(
     alloc: Global,
     state: RandomState,
+    filter: &QuadFilter,
     bytes: &[u8],
     cuts: &Cuts,
 ) -> Result<NumberedLines, PieceFault>
     requires fits { AreCuts bytes.now cuts.now }
-    ensures quads { IfOk result (λ block. (quads : List QuadParts) × HaveStatements (lines bytes.now) quads
-        × AreQuadsOf quads block) }
+    ensures quads { IfOk result (λ block. (all quads : List QuadParts) × HaveStatements (lines bytes.now) all
+        × IsKept (keeps filter.now) all quads × AreQuadsOf quads block) }
     ensures count { IfOk result (λ block. block.lines ≡ length (lines bytes.now)) }
     ensures bad_line { IfErr result
         (λ fault. (k : ℕ) → fault ≡ BadLine k → IsFirstMalformed (lines bytes.now) k) }
@@ -127,7 +132,7 @@ fn number_pieces(
     pieces_are_the_document();
     let mut so_far = NumberedLines::new(alloc, state);
     for i in 0..cuts.pieces() {
-        match add_lines(alloc, state, &mut so_far, cuts.piece(bytes, i)) {
+        match add_lines(alloc, state, filter, &mut so_far, cuts.piece(bytes, i)) {
             Ok(()) => {}
             Err(fault) => return Err(fault),
         }
@@ -135,14 +140,36 @@ fn number_pieces(
     Ok(so_far)
 }
 
-/// Reads a block of whole lines (RDF 1.1 N-Quads, grammar). Numbers its quads by the N-Quads forms of their terms, and
-/// counts its lines.
+/// Reads a block of whole lines (RDF 1.1 N-Quads, grammar). Numbers the quads that the filter keeps, and perhaps others, by the
+/// N-Quads forms of their terms, and counts the lines.
 ///
-/// It reads the block in pieces. The result does not depend on where they end.
+/// It reads the block in pieces. The quads that the filter keeps do not depend on where they end.
 ///
 /// # Errors
 /// - `BadLine(k)` if line k of the block, counted from 0, is the first that is malformed.
 /// - `Memory` if an allocation fails.
+pub(crate) fn number_kept(
+    alloc: Global,
+    state: RandomState,
+    filter: &QuadFilter,
+    bytes: &[u8],
+) -> Result<NumberedLines, PieceFault>
+    ensures quads { IfOk result (λ block. (all quads : List QuadParts) × HaveStatements (lines bytes.now) all
+        × IsKept (keeps filter.now) all quads × AreQuadsOf quads block) }
+    ensures count { IfOk result (λ block. block.lines ≡ length (lines bytes.now)) }
+    ensures bad_line { IfErr result
+        (λ fault. (k : ℕ) → fault ≡ BadLine k → IsFirstMalformed (lines bytes.now) k) }
+{
+    match Cuts::every(alloc, bytes, BYTES_A_PIECE) {
+        Ok(cuts) => number_pieces(alloc, state, filter, bytes, &cuts),
+        Err(_) => Err(PieceFault::Memory),
+    }
+}
+
+/// Reads a block of whole lines, and numbers all its quads, as [`number_kept`] does.
+///
+/// # Errors
+/// As [`number_kept`].
 pub(crate) fn number_lines(
     alloc: Global,
     state: RandomState,
@@ -154,8 +181,8 @@ pub(crate) fn number_lines(
     ensures bad_line { IfErr result
         (λ fault. (k : ℕ) → fault ≡ BadLine k → IsFirstMalformed (lines bytes.now) k) }
 {
-    match Cuts::every(alloc, bytes, BYTES_A_PIECE) {
-        Ok(cuts) => number_pieces(alloc, state, bytes, &cuts),
-        Err(_) => Err(PieceFault::Memory),
+    match number_kept(alloc, state, &QuadFilter::All, bytes) {
+        Ok(block) => Ok(block),
+        Err(fault) => Err(fault),
     }
 }

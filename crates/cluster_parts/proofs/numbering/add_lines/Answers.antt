@@ -15,9 +15,9 @@ add_read-requires c = record {
 
 pub returns-in-Ok-add_read-clause-read : goal.returns-in-Ok-add_read-clause-read
 returns-in-Ok-add_read-clause-read c = λ before was.
-    read_more c.args.so_far.now c.add_read.new.so_far before c.args.piece.now c.in-Ok.read was c.in-Ok.ensures.read c.in-Ok-add_read.ensures.numbered c.in-Ok-add_read.ensures.count
+    read_more c.args.filter.now c.args.so_far.now c.add_read.new.so_far before c.args.piece.now c.in-Ok.read was c.in-Ok.ensures.read c.in-Ok-add_read.ensures.numbered c.in-Ok-add_read.ensures.count
 
 pub returns-in-Err-clause-bad_line : goal.returns-in-Err-clause-bad_line
 returns-in-Err-clause-bad_line c = λ k is before was.
     let line = c.fault_after.ensures.line k is in
-    bad_after c.args.so_far.now before (lines c.args.piece.now) line.0 k was (c.in-Err.ensures.bad_line line.0 line.1) line.2
+    bad_after c.args.filter.now c.args.so_far.now before (lines c.args.piece.now) line.0 k was (c.in-Err.ensures.bad_line line.0 line.1) line.2

@@ -10,10 +10,13 @@ add_lines-requires c =
     let r = room_for c.args.bytes.now c.args.cuts.now are c.loop-i.i c.loop-i.so_far.lines c.piece.result.now (omega (arith, c.loop-i-test.true)) c.piece.ensures.bytes c.loop-i.invariant.count in
     record { room = omega (arith, r) }
 
+pub loop-i-init : goal.loop-i-init
+loop-i-init c = c.new-so_far.ensures.none c.args.filter.now
+
 pub loop-i-preserved : goal.loop-i-preserved
 loop-i-preserved c =
     let are = c.pieces_are_the_document.ensures.law c.args.bytes.now c.args.cuts.now c.requires.fits in
-    subst (AreRead c.add_lines.new.so_far)
+    subst (AreRead c.args.filter.now c.add_lines.new.so_far)
     (lines_more c.args.bytes.now c.args.cuts.now are c.loop-i.i c.piece.result.now (omega (arith, c.loop-i-test.true)) c.piece.ensures.bytes)
     (c.in-Ok.ensures.read _ c.loop-i.invariant)
 
@@ -22,7 +25,7 @@ returns-clause-quads c =
     let are = c.pieces_are_the_document.ensures.law c.args.bytes.now c.args.cuts.now c.requires.fits in
     let all = lines_of_all c.args.bytes.now c.args.cuts.now are c.loop-i.i (omega (arith, c.loop-i-test.false)) in
     let read = c.loop-i.invariant in
-    (read.quads, subst (λ ls. HaveStatements ls read.quads) all read.statements, read.numbered)
+    (read.all, read.quads, subst (λ ls. HaveStatements ls read.all) all read.statements, read.kept, read.numbered)
 
 pub returns-clause-count : goal.returns-clause-count
 returns-clause-count c =

@@ -3,4 +3,4 @@ use Rattle.cluster_parts.proofs.NumberingSteps.{nothing_is_read}
 use Rattle.cluster_parts.proofs.numbering.NumberedLines.new.Goals as goal
 
 pub returns : goal.returns
-returns c = record { none = nothing_is_read _ c.new.ensures.empty c.new-2.ensures.items refl }
+returns c = record { none = λ filter. nothing_is_read filter _ c.new.ensures.empty c.new-2.ensures.items refl }
