@@ -5,7 +5,7 @@ ghost use Rattle.part_core.specs.Refused.{fault_of, is_of_query};
 ghost use Rattle.part_core.specs.declared.fault.PartFault.TheVariants.{BadLine};
 
 use cluster_parts::SealFault;
-use nquads_core::{PieceFault, ReadFault};
+use nquads_core::PieceFault;
 use query_plan::PlanFault;
 use result_merge::MergeFault;
 
@@ -82,17 +82,6 @@ impl PartFault {
         match fault {
             MergeFault::Damaged => PartFault::Damaged,
             MergeFault::Memory => PartFault::Memory,
-        }
-    }
-
-    /// Returns the fault of a reader, under the same name.
-    pub(crate) fn of_read(fault: ReadFault) -> PartFault
-        ensures no_line { (k : ℕ) → result ≡ BadLine k → ⊥ }
-        ensures no_query { is_of_query result ≡ true → ⊥ }
-    {
-        match fault {
-            ReadFault::Read => PartFault::Read,
-            ReadFault::Memory => PartFault::Memory,
         }
     }
 }

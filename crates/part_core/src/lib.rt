@@ -4,13 +4,14 @@
 //! for the bytes that it reads (`IsOutput` in specs/Output.antt). The laws of `cluster_parts` say what the outputs for
 //! all blocks of a document give together.
 //!
-//! Reading order: `command`, `fault`, `composing`, `program`, `report`.
+//! Reading order: `command`, `fault`, `composing`, `reading`, `program`, `report`.
 #![tactic(auto)]
 
 mod command;
 mod composing;
 mod fault;
 mod program;
+mod reading;
 mod report;
 
 pub use command::{Command, read_command};

@@ -1,6 +1,6 @@
 //! A command over a reader and a writer.
 ghost use Rattle.std.specs.Prelude.{◌≡◌, ℕ, true, IfErr, IfOk, OnOk};
-ghost use Rattle.std.specs.Io.KnownBytes.{Appends, Consumes, IsAtEnd};
+ghost use Rattle.std.specs.Io.KnownBytes.{Appends};
 ghost use Rattle.part_core.specs.Output.{HasPartitions};
 ghost use Rattle.part_core.specs.Refused.{is_of_query};
 ghost use Rattle.part_core.specs.Run.{IsBadLine, IsDone, IsRefused};
@@ -9,22 +9,10 @@ ghost use Rattle.part_core.specs.declared.fault.PartFault.TheVariants.{BadLine};
 use crate::command::Command;
 use crate::composing::compose;
 use crate::fault::PartFault;
-use nquads_core::{Sink, Source, read_to_end, write_all};
+use crate::reading::read_input;
+use nquads_core::{Sink, Source, write_all};
 use std::alloc::Global;
 use std::hash::RandomState;
-
-/// Reads the rest of the reader.
-fn read_input<S: Source>(alloc: Global, reader: &mut S) -> Result<Vec<u8>, PartFault>
-    ensures bytes { IfOk result (λ input. Consumes (S.left reader.old) (S.left reader.new) input.items) }
-    ensures at_end { OnOk result (IsAtEnd (S.left reader.new)) }
-    ensures no_line { IfErr result (λ fault. (k : ℕ) → fault ≡ BadLine k → ⊥) }
-    ensures no_query { IfErr result (λ fault. is_of_query fault ≡ true → ⊥) }
-{
-    match read_to_end(alloc, reader) {
-        Ok(input) => Ok(input),
-        Err(fault) => Err(PartFault::of_read(fault)),
-    }
-}
 
 /// Writes the whole output.
 fn write_output<K: Sink>(writer: &mut K, output: &[u8]) -> Result<(), PartFault>
