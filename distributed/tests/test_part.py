@@ -79,9 +79,14 @@ class Part(unittest.TestCase):
     def compare(self, seed: int) -> None:
         """Compares both commands over a random document, at random cuts, and the quads by subject and by graph name."""
         dice = random.Random(f"part:{seed}")
-        _, statements, _ = documents.case(dice)
+        _, statements, query = documents.case(dice)
         text = documents.document(dice, statements, True, ["\n"])
         cut = blocks(dice, text)
+        needed = [part("needed", str(len(query.encode())), text=query.encode() + block) for block in cut]
+        wanted = spq(["select", "--query", query], text)
+        self.assertEqual({status for status, _ in needed}, {wanted[0]}, (seed, query))  # some queries are rejected
+        if not wanted[0]:
+            self.assertEqual(spq(["select", "--query", query], b"".join(said for _, said in needed)), wanted, (seed, text))
         self.assertEqual((0, terms(cut)), spq(["terms"], text), (seed, text))
         self.assertEqual((0, check(cut)), spq(["check"], text), (seed, text))
         for key in ["subject", "graph"]:
@@ -117,6 +122,12 @@ class Part(unittest.TestCase):
         once, *again = texts("repeated", text=hashes + texts("split", "check", "1", text=text[:16])[3])
         self.assertEqual((number(once), *map(len, map(numbers, again))), (1, 1, 1))
 
+    def test_needed(self):
+        """Quads that the query does not need are left out, and repeats are not."""
+        query = b"SELECT * { ?s <a:p> ?o }"
+        text = b'<a:s> <a:p> "\\u0078" .\n# c\n<a:s> <a:q> "x" .\n<a:s> <a:p> "x" <a:g> .\n<a:s> <a:p> "x" .\n'
+        self.assertEqual(part("needed", str(len(query)), text=query + text), (0, b'<a:s> <a:p> "x" .\n' * 2))
+
     def test_numbers_of_lines(self):
         for text, count in [(b"", 0), (b"\n", 1), (b"# c\r\n\r# d", 3)]:
             for what in ["check", "terms", "subject", "graph"]:
@@ -139,6 +150,12 @@ class Part(unittest.TestCase):
             (["repeated"], sealed, 5, b"error: damaged\n"),
             (["repeated"], texts("split", "terms", "1")[1], 5, b"error: damaged\n"),
             (["again", "1"], texts("split", "terms", "1")[1], 5, b"error: damaged\n"),
+            (["needed", "21"], b"SELECT * { ?s ?p ?o }\nx\n", 1, b"error: line 2\n"),
+            (["needed", "21"], b"SELECT * { ?s ?p ?o }", 0, b""),
+            (["needed", "20"], b"SELECT * { ?s ?p ?o }", 2, b"error: query\n"),
+            (["needed", "1"], b"\xff", 2, b"error: query\n"),
+            (["needed", "22"], b"SELECT * { ?s ?p ?o }", 5, b"error: damaged\n"),
+            (["needed", "-1"], b"", 3, b"error: command line\n"),
             (["first"], b"", 0, b""),
             (["split", "graph", "65536"], b"", 0, None),
         ]:

@@ -1,4 +1,6 @@
+pub mod Needed
 pub mod Output
 pub mod Refused
 pub mod Run
 pub mod Report
+pub mod Laws

@@ -17,7 +17,8 @@ use Rattle.query_plan.specs.Planned.{IsPlan}
 use Rattle.query_plan.specs.declared.planning.PartsPlan.{PartsPlan}
 use Rattle.result_merge.specs.Merging.{IsMerged}
 use Rattle.part_core.specs.declared.command.Command.{Command}
-use Rattle.part_core.specs.declared.command.Command.TheVariants.{SplitCheck, Count, Repeated, Again, SplitTerms, First, Keep, SplitQuads, Unseal, Plan, Merge}
+use Rattle.part_core.specs.declared.command.Command.TheVariants.{SplitCheck, Count, Repeated, Again, SplitTerms, First, Keep, SplitQuads, Needed, Unseal, Plan, Merge}
+use Rattle.part_core.specs.Needed.{IsBadAfter, IsNeededOf}
 
 -- `split check`: the parts of a block
 pub record IsSplit (partitions : ℕ) (input output : List ℕ) : Type 0 where
@@ -115,6 +116,7 @@ IsOutput (SplitTerms partitions) input output = IsTermSplit partitions input out
 IsOutput First input output = IsFirstOf input output
 IsOutput Keep input output = IsKeptOf input output
 IsOutput (SplitQuads key partitions) input output = IsQuadSplit key partitions input output
+IsOutput (Needed count) input output = IsNeededOf count input output
 IsOutput Unseal input output = IsUnsealed input output
 IsOutput (Plan split) input output = IsPlanned split input output
 IsOutput (Merge m) input output = IsMerged m.distinct m.offset m.limit input output
@@ -138,6 +140,7 @@ IsBadInput (SplitTerms partitions) input k = IsFirstMalformed (lines input) k
 IsBadInput First input k = ⊥
 IsBadInput Keep input k = ⊥
 IsBadInput (SplitQuads key partitions) input k = IsFirstMalformed (lines input) k
+IsBadInput (Needed count) input k = IsBadAfter count input k
 IsBadInput Unseal input k = ⊥
 IsBadInput (Plan split) input k = ⊥
 IsBadInput (Merge m) input k = ⊥
@@ -152,6 +155,7 @@ HasPartitions (SplitTerms partitions) = 0 < partitions
 HasPartitions First = ⊤
 HasPartitions Keep = ⊤
 HasPartitions (SplitQuads key partitions) = 0 < partitions
+HasPartitions (Needed count) = ⊤
 HasPartitions Unseal = ⊤
 HasPartitions (Plan split) = ⊤
 HasPartitions (Merge m) = ⊤

@@ -22,7 +22,7 @@ pub record IsBadLine (command : Command) (left left' : Option (List ℕ)) (line 
   pub at_end : IsAtEnd left'
   pub malformed : IsBadInput command input line
 
--- The reader was read to its end, and what was read has no plan.
+-- The reader was read to its end, and what was read has no plan, or begins with no query.
 pub record IsRefused (command : Command) (left left' : Option (List ℕ)) (fault : PartFault) : Type 0 where
   pub input : List ℕ
   pub consumed : Consumes left left' input

@@ -33,6 +33,8 @@ pub enum Command {
     Again(u64),
     /// `split terms P`: splits the terms of a block into P partitions.
     SplitTerms(u64),
+    /// `needed N`: keeps the quads of a block that a query needs. The query is the first N bytes.
+    Needed(u64),
     /// `first`: finds which terms are new in each of the sealed documents of a partition.
     First,
     /// `keep`: lists the new terms of a block.
@@ -106,8 +108,8 @@ fn plan_of(split: &str) -> Result<Command, PartFault>
     }
 }
 
-/// Reads a number of rows.
-fn rows_of(word: &str) -> Result<u64, PartFault> {
+/// Reads a number of rows or bytes.
+fn number_of(word: &str) -> Result<u64, PartFault> {
     match word.parse::<u64>() {
         Ok(n) => Ok(n),
         Err(_no_number) => Err(PartFault::Line),
@@ -118,7 +120,7 @@ fn rows_of(word: &str) -> Result<u64, PartFault> {
 fn limit_of(word: &str) -> Result<Option<u64>, PartFault> {
     match word {
         "none" => Ok(None),
-        _ => Ok(Some(rows_of(word)?)),
+        _ => Ok(Some(number_of(word)?)),
     }
 }
 
@@ -136,7 +138,7 @@ fn merge_of(rows: &str, offset: &str, limit: &str) -> Result<Command, PartFault>
     ensures partitions { IfOk result HasPartitions }
 {
     let distinct = distinct_of(rows)?;
-    let offset = rows_of(offset)?;
+    let offset = number_of(offset)?;
     let limit = limit_of(limit)?;
     Ok(Command::Merge(Merging {
         distinct,
@@ -156,6 +158,7 @@ pub fn read_command(words: &[String]) -> Result<Command, PartFault>
     match words.len() {
         2 => command_of(first),
         3 if first == "again" => Ok(Command::Again(partitions_of(second)?)),
+        3 if first == "needed" => Ok(Command::Needed(number_of(second)?)),
         3 if first == "plan" => plan_of(second),
         4 if first == "split" => split_of(second, third),
         5 if first == "merge" => merge_of(second, third, word_at(words, 4)),

@@ -9,6 +9,7 @@ ghost use Rattle.part_core.specs.declared.fault.PartFault.TheVariants.{BadLine};
 
 use crate::command::{Command, Merging};
 use crate::fault::PartFault;
+use crate::needing::needed;
 use cluster_parts::{
     QuadKey, count_lines, first_lists, first_terms, join_sealed, keep_terms, repeated_hashes,
     split_again, split_for_check, split_for_terms, split_quads,
@@ -274,7 +275,7 @@ fn merged(alloc: Global, input: &[u8], merging: &Merging) -> Result<Vec<u8>, Par
 /// - `BadLine(k)` if line k of the block, counted from 0, is the first that is malformed.
 /// - `Version` if another version of the program wrote the input.
 /// - `Damaged` if the input was damaged, or does not fit together.
-/// - `Query` if a rule rejects the query of `plan`, or it is not UTF-8.
+/// - `Query` if a rule rejects the query of `plan` or `needed`, or it is not UTF-8.
 /// - `Split` if the query of `plan` does not meet the condition of the split.
 /// - `Sum` if the sum of its OFFSET and LIMIT is above the largest number.
 /// - `Offset` if its text could not be rewritten for the parts.
@@ -301,6 +302,7 @@ pub fn compose(
         Command::SplitQuads(key, partitions) => {
             split_by_key(alloc, state, input, key, *partitions)
         }
+        Command::Needed(count) => needed(alloc, state, input, *count),
         Command::Unseal => unsealed_text(alloc, input),
         Command::First => firsts(alloc, state, input),
         Command::Keep => kept(alloc, input),

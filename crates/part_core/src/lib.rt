@@ -4,12 +4,16 @@
 //! for the bytes that it reads (`IsOutput` in specs/Output.antt). The laws of `cluster_parts` say what the outputs for
 //! all blocks of a document give together.
 //!
-//! Reading order: `command`, `fault`, `composing`, `reading`, `program`, `report`.
+//! The laws in [`laws`] say that the quads that a query needs give its result.
+//!
+//! Reading order: `command`, `fault`, `needing`, `composing`, `reading`, `program`, `report`.
 #![tactic(auto)]
 
 mod command;
 mod composing;
 mod fault;
+pub mod laws;
+mod needing;
 mod program;
 mod reading;
 mod report;
