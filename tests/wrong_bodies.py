@@ -40,7 +40,7 @@ from sources import ROOT, Function, Source, crates, mutants, original
 CACHE = os.path.join(os.environ.get("XDG_CACHE_HOME") or os.path.expanduser("~/.cache"), "spq", "mutants.json")
 PARTS = ("src", "specs", "proofs")
 # An error of the prover, or a goal that is not proved, with its place. The prover also prints other notes with a place.
-ERROR = re.compile(r"^(?P<goal>note: )?(?:\./)?(?P<file>(?:src|specs|proofs)/\S+?):(?P<line>\d+):\d+: (?(goal)it is not proved|error\b).*$", re.M)
+ERROR = re.compile(r"^(?P<goal>note: )?(?:\./)?(?P<file>(?:src|specs|proofs)/\S+?):(?P<line>\d+):\d+: (?(goal)(?:it is not proved|`search` found no proof)|error\b).*$", re.M)
 # What the prover says of a text that it cannot read, and of a proof that names what the edit took away.
 UNREADABLE = re.compile(r"is not in scope|has no field|has no `|is no name|was not admitted|operand is missing|expected the end|cannot continue")
 
