@@ -1,8 +1,8 @@
 //! The terms of a reader.
 
+use crate::fixtures::Recorder;
 use dataset_load::{LoadNotes, NoListener, load_terms};
 use nquads_core::Device;
-use piece_pool::OpenGate;
 
 /// A repeated statement has no new terms.
 #[test]
@@ -17,7 +17,7 @@ fn a_reader_has_terms(rt: HostRuntime) {
         1,
         &mut reader,
         2,
-        &OpenGate,
+        &Recorder::counting(),
         &mut notes,
         &NoListener,
     );

@@ -3,7 +3,6 @@
 use crate::fixtures::Recorder;
 use dataset_load::load;
 use piece_cuts::Cuts;
-use piece_pool::OpenGate;
 use spq_core::{How, answer};
 use std::alloc::AllocGlobal;
 
@@ -18,7 +17,8 @@ fn a_document_in_pieces_has_solutions(rt: HostRuntime) {
         rows: 1,
     };
     let query = "SELECT ?o { ?s ?p ?o }";
-    let output = answer(&rt, rt.alloc(), DOCUMENT, query, &cuts, &how, &OpenGate).expect(
+    let gate = Recorder::counting();
+    let output = answer(&rt, rt.alloc(), DOCUMENT, query, &cuts, &how, &gate).expect(
         &rt, "a result",
     );
     let expected =

@@ -9,7 +9,6 @@ use dict_core::Dict;
 use needed_quads::filter_of;
 use nquads_core::Device;
 use piece_cuts::Cuts;
-use piece_pool::OpenGate;
 use quad_index::Index;
 use sparql_algebra::{GraphName, Operator, PatternTerm, Plan, TriplePattern, translate};
 use sparql_eval::{Rows, evaluate, graph, pattern};
@@ -28,7 +27,8 @@ fn stored<R: RandomSource + Threads + Wait + Abort>(rt: &R, alloc: Global) -> (D
     ensures below { AreBelow (length result.0) result.1 }
 {
     let cuts = Cuts::every(alloc, DOCUMENT, 1).expect(rt, "cuts");
-    let store = load(rt, alloc, DOCUMENT, &cuts, 1, &OpenGate).expect(rt, "a store");
+    let gate = Recorder::counting();
+    let store = load(rt, alloc, DOCUMENT, &cuts, 1, &gate).expect(rt, "a store");
     store.into_parts()
 }
 
@@ -48,7 +48,8 @@ fn a_query_has_its_plan_and_solutions(rt: HostRuntime) {
         "SELECT ?z ?s { ?s ?p ?o OPTIONAL { ?o ?q ?z } }",
     );
     let (dict, index) = stored(&rt, alloc);
-    let found = evaluate(&rt, alloc, dict, &index, &plan, &HOW, &OpenGate);
+    let gate = Recorder::counting();
+    let found = evaluate(&rt, alloc, dict, &index, &plan, &HOW, &gate);
     let (rows, _dict): (Rows, Dict) = found.expect(&rt, "rows");
     assert!(rt; rows.width() == 5 && rows.len() == 2);
     assert!(rt; rows.get(0, 0).is_some() != rows.get(1, 0).is_some());
@@ -69,7 +70,7 @@ fn a_filter_leaves_out_quads(rt: HostRuntime) {
         &mut reader,
         &filter,
         1,
-        &OpenGate,
+        &Recorder::counting(),
         &mut notes,
         &NoListener,
     )
@@ -105,8 +106,9 @@ fn a_graph_is_matched(rt: HostRuntime) {
         triples: Vec::new(alloc),
     };
     let name = GraphName::Variable(0);
+    let gate = Recorder::counting();
     let (rows, dict) = graph(
-        &rt, alloc, state, dict, &index, 1, &name, &inner, &HOW, &OpenGate,
+        &rt, alloc, state, dict, &index, 1, &name, &inner, &HOW, &gate,
     )
     .expect(&rt, "rows");
     assert!(rt; rows.len() == 1 && dict.len() == 6);
