@@ -11,5 +11,6 @@ pub mod TermSteps
 pub mod NumberListSteps
 pub mod NumberListLaws
 pub mod SealLaws
+pub mod FaultSteps
 pub mod RemainderLaws
 pub mod HashedLaws

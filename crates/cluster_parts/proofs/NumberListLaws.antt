@@ -51,13 +51,13 @@ all_below m n [] low h = All-nil (λ x. x < n)
 all_below m n (x ∷ xs) low h =
     All-cons (λ y. y < n) x xs (omega (arith, low, All-head (λ y. y ≤ m) x xs h)) (all_below m n xs low (All-tail (λ y. y ≤ m) x xs h))
 
-width_fits : (xs : List ℕ) → FitInEightBytes xs → All (λ x. x < 256 ^ width xs) xs
+pub width_fits : (xs : List ℕ) → FitInEightBytes xs → All (λ x. x < 256 ^ width xs) xs
 unfolding width
 width_fits xs fit =
     let top = fold max 0 xs in
     all_below top (256 ^ byte_count top) xs (count_fits top (largest_fits 0 xs (omega arith) fit)) (above_all 0 xs)
 
-in_bytes_same : (k : ℕ) (xs ys : List ℕ) → 0 < k → All (λ x. x < 256 ^ k) xs → All (λ y. y < 256 ^ k) ys → in_bytes k xs ≡ in_bytes k ys → xs ≡ ys
+pub in_bytes_same : (k : ℕ) (xs ys : List ℕ) → 0 < k → All (λ x. x < 256 ^ k) xs → All (λ y. y < 256 ^ k) ys → in_bytes k xs ≡ in_bytes k ys → xs ≡ ys
 in_bytes_same k [] [] some fit fit' e = refl
 in_bytes_same k [] (y ∷ ys) some fit fit' e = absurd (omega (arith, some, ap length e, length-append (little_bytes k y) (in_bytes k ys), length-bytes_low_first 0 k y))
 in_bytes_same k (x ∷ xs) [] some fit fit' e = absurd (omega (arith, some, ap length e, length-append (little_bytes k x) (in_bytes k xs), length-bytes_low_first 0 k x))
@@ -72,7 +72,7 @@ in_bytes_same k (x ∷ xs) (y ∷ ys) some fit fit' e =
 difference_fits : (before n : ℕ) → difference before n < 2 ^ 64
 difference_fits before n = omega arith
 
-differences_fit : (before : ℕ) (xs : List ℕ) → FitInEightBytes (differences before xs)
+pub differences_fit : (before : ℕ) (xs : List ℕ) → FitInEightBytes (differences before xs)
 differences_fit before [] = All-nil (λ n. n < 2 ^ 64)
 differences_fit before (x ∷ xs) = All-cons (λ n. n < 2 ^ 64) (difference before x) (differences x xs) (difference_fits before x) (differences_fit x xs)
 
@@ -101,17 +101,34 @@ count_some n =
     some_or n 1 _ (omega arith) (some_or n 2 _ (omega arith) (some_or n 3 _ (omega arith) (some_or n 4 _ (omega arith)
     (some_or n 5 _ (omega arith) (some_or n 6 _ (omega arith) (some_or n 7 8 (omega arith) (omega arith)))))))
 
-width_some : (xs : List ℕ) → 0 < width xs
+pub width_some : (xs : List ℕ) → 0 < width xs
 unfolding width
 width_some xs = count_some (fold max 0 xs)
+
+most_or : (n k m : ℕ) → k ≤ 8 → m ≤ 8 → (if nat_lt n (256 ^ k) then k else m) ≤ 8
+most_or n k m a b = by (nat_lt n (256 ^ k))
+  where
+    by : (c : Bool) → (if c then k else m) ≤ 8
+    by true = a
+    by false = b
+
+count_most : (n : ℕ) → byte_count n ≤ 8
+count_most n =
+    most_or n 1 _ (omega arith) (most_or n 2 _ (omega arith) (most_or n 3 _ (omega arith) (most_or n 4 _ (omega arith)
+    (most_or n 5 _ (omega arith) (most_or n 6 _ (omega arith) (most_or n 7 8 (omega arith) (omega arith)))))))
+
+pub width_most : (xs : List ℕ) → width xs ≤ 8
+unfolding width
+width_most xs = count_most (fold max 0 xs)
+
+-- numbers are read in one way only
+pub found_same : (f g : List ℕ) → FitInEightBytes f → FitInEightBytes g → width f ∷ in_bytes (width f) f ≡ width g ∷ in_bytes (width g) g → f ≡ g
+found_same f g fit fit' e =
+    let same : width f ≡ width g = ap (λ l. get_or l 0 0) e in
+    in_bytes_same (width g) f g (width_some g) (subst (λ k. All (λ n. n < 256 ^ k) f) same (width_fits f fit)) (width_fits g fit')
+    (ap (λ k. in_bytes k f) (sym same) ∙ ap (drop 1) e)
 
 pub numbers_same : (xs ys : List ℕ) → FitInEightBytes xs → FitInEightBytes ys → number_list xs ≡ number_list ys → xs ≡ ys
 unfolding number_list
 numbers_same xs ys fit fit' e =
-    let f = differences 0 xs in
-    let g = differences 0 ys in
-    let same : width f ≡ width g = ap (λ l. get_or l 0 0) e in
-    let found : f ≡ g =
-    in_bytes_same (width g) f g (width_some g) (subst (λ k. All (λ n. n < 256 ^ k) f) same (width_fits f (differences_fit 0 xs))) (width_fits g (differences_fit 0 ys))
-    (ap (λ k. in_bytes k f) (sym same) ∙ ap (drop 1) e) in
-    differences_same 0 xs ys (omega arith) fit fit' found
+    differences_same 0 xs ys (omega arith) fit fit' (found_same (differences 0 xs) (differences 0 ys) (differences_fit 0 xs) (differences_fit 0 ys) e)

@@ -22,7 +22,7 @@ filled_small (y ∷ ys) m small zero = small 0
 filled_small (y ∷ ys) m small (suc i) = filled_small ys m (λ j. small (suc j)) i
 
 -- the bytes of a number that was read
-written_back : (k : ℕ) (ys : List ℕ) → k ≤ 8 → length ys ≡ k → ((i : ℕ) → get_or ys i 0 < 256) → little_bytes k (little_number k ys) ≡ ys
+pub written_back : (k : ℕ) (ys : List ℕ) → k ≤ 8 → length ys ≡ k → ((i : ℕ) → get_or ys i 0 < 256) → little_bytes k (little_number k ys) ≡ ys
 written_back k ys most long small =
     let bs = ys ++ replicate (8 - k) 0 in
     let n = little_number k ys in
@@ -33,7 +33,7 @@ written_back k ys most long small =
     let all : to_le_bytes w64 n ≡ bs = le_bytes_8 bs n filled (filled_small ys (8 - k) small) is in
     sym (take-bytes_low_first 0 8 k n most) ∙ ap (take k) all ∙ take-append-le k ys (replicate (8 - k) 0) (omega (arith, long)) ∙ take_all k ys (omega (arith, long))
 
-small_take : (n : ℕ) (xs : List ℕ) → ((i : ℕ) → get_or xs i 0 < 256) → (i : ℕ) → get_or (take n xs) i 0 < 256
+pub small_take : (n : ℕ) (xs : List ℕ) → ((i : ℕ) → get_or xs i 0 < 256) → (i : ℕ) → get_or (take n xs) i 0 < 256
 small_take zero xs h i = omega arith
 small_take (suc n) [] h i = omega arith
 small_take (suc n) (x ∷ xs) h zero = h 0

@@ -13,23 +13,23 @@ use Rattle.cluster_parts.proofs.NumberListLaws.{numbers_same, split_same}
 
 -- ---- numbers
 
-number_long : (n : ℕ) → length (number_bytes n) ≡ 8
+pub number_long : (n : ℕ) → length (number_bytes n) ≡ 8
 unfolding number_bytes
 number_long n = refl
 
-number_same : (m n : ℕ) → m < 2 ^ 64 → n < 2 ^ 64 → number_bytes m ≡ number_bytes n → m ≡ n
+pub number_same : (m n : ℕ) → m < 2 ^ 64 → n < 2 ^ 64 → number_bytes m ≡ number_bytes n → m ≡ n
 unfolding number_bytes
 number_same m n low_m low_n e = sym (from_le_bytes-to_le_bytes_8 m low_m) ∙ ap (from_le_bytes w64) e ∙ from_le_bytes-to_le_bytes_8 n low_n
 
 -- ---- sealed texts
 
-opened : (text rest : List ℕ) → sealed text ++ rest ≡ seal_head ++ (number_bytes (length text) ++ (number_bytes (hash text) ++ (text ++ rest)))
+pub opened : (text rest : List ℕ) → sealed text ++ rest ≡ seal_head ++ (number_bytes (length text) ++ (number_bytes (hash text) ++ (text ++ rest)))
 opened text rest =
     append_assoc seal_head (number_bytes (length text) ++ (number_bytes (hash text) ++ text)) rest
     ∙ ap (λ l. seal_head ++ l) (append_assoc (number_bytes (length text)) (number_bytes (hash text) ++ text) rest
     ∙ ap (λ l. number_bytes (length text) ++ l) (append_assoc (number_bytes (hash text)) text rest))
 
-long : (text rest : List ℕ) → 8 + length text + length rest ≤ length (sealed text ++ rest)
+pub long : (text rest : List ℕ) → 8 + length text + length rest ≤ length (sealed text ++ rest)
 long text rest = omega (
   arith,
   ap length (opened text rest),
@@ -40,7 +40,7 @@ long text rest = omega (
   length-append text rest,
 )
 
-first_same : (text other rest rest' : List ℕ) → length (sealed text ++ rest) < 2 ^ 64 → sealed text ++ rest ≡ sealed other ++ rest' → (text ≡ other) × (rest ≡ rest')
+pub first_same : (text other rest rest' : List ℕ) → length (sealed text ++ rest) < 2 ^ 64 → sealed text ++ rest ≡ sealed other ++ rest' → (text ≡ other) × (rest ≡ rest')
 first_same text other rest rest' low e =
     let low_text : length text < 2 ^ 64 = omega (arith, low, long text rest) in
     let low_other : length other < 2 ^ 64 = omega (arith, low, long other rest', ap length e) in
@@ -72,7 +72,7 @@ fronts_are_unique (t ∷ ts) (o ∷ os) rest rest' same low e =
 
 -- ---- lists of numbers
 
-front_fits : (xs ys : List ℕ) → FitInEightBytes (xs ++ ys) → FitInEightBytes xs × FitInEightBytes ys
+pub front_fits : (xs ys : List ℕ) → FitInEightBytes (xs ++ ys) → FitInEightBytes xs × FitInEightBytes ys
 front_fits [] ys fit = (All-nil (λ n. n < 2 ^ 64), fit)
 front_fits (x ∷ xs) ys fit =
     let rest = front_fits xs ys (All-tail (λ n. n < 2 ^ 64) x (xs ++ ys) fit) in

@@ -1,5 +1,5 @@
 -- Steps of the loops over lines and texts of terms.
-use Rattle.std.proofs.Common.{◌≡◌, ℕ, zero, suc, ◌+◌, ◌<◌, ◌%◌, ◌==◌, Bool, true, false, cond, not, ◌||◌, if◌then◌else◌, eqb, List, [], ◌∷◌, ◌++◌, length, map, take, set, get_or, slice_get, codes, Some, refl, sym, ap, subst, ◌∙◌, ⊎_elim, arith, eq-eqb, ne_eqb, append-nil, append_assoc, length-append}
+use Rattle.std.proofs.Common.{◌≡◌, ℕ, zero, suc, ◌+◌, ◌<◌, ◌≤◌, ◌%◌, ◌==◌, Bool, true, false, cond, not, ◌||◌, if◌then◌else◌, eqb, List, [], ◌∷◌, ◌++◌, length, map, take, set, get_or, slice_get, codes, Some, refl, sym, ap, subst, ◌∙◌, ⊎_elim, arith, eq-eqb, ne_eqb, mod-lt, append-nil, append_assoc, length-append}
 use Rattle.std.specs.Prelude.{replicate}
 use Rattle.std.specs.Borrow.{Bor}
 use Rattle.std.specs.List.{AllByRecursion, IsDistinct, flat_map, list_any}
@@ -26,7 +26,7 @@ use Rattle.cluster_parts.specs.Seal.{all_sealed, sealed}
 use Rattle.cluster_parts.specs.NumberList.{number_list}
 use Rattle.cluster_parts.specs.Parts.{hashes_in, is_in, terms_in, texts_below}
 use Rattle.cluster_parts.specs.Terms.{has_line, is_marked, line_list, lines_in, mark, marked_lines, marks, marks_in_turn, term_lines, term_line}
-use Rattle.cluster_parts.specs.Known.{AreKnown, AreTaken, counted_part, known_lines, lines_part, lines_parts, texts_of}
+use Rattle.cluster_parts.specs.Known.{AreKnown, AreTaken, HasNoMark, counted_part, known_lines, lines_part, lines_parts, texts_of}
 use Rattle.cluster_parts.specs.Output.{AreFirst, IsKept, check_parts, counting_part, terms_part, terms_parts}
 use Rattle.cluster_parts.proofs.PartSteps.{at_place, taken}
 use Rattle.cluster_parts.proofs.SetCounts.{length_of_set}
@@ -385,3 +385,36 @@ all_kept list rest marked counts out h none some each =
           each n inside ∙ h.are_taken n inside ∙ (λ i. length (lines_in (long i) n (whole i)));
       kept = h.kept ∙ ap (λ ls. line_list (marked_lines (texts_of marked) [] ls)) whole;
     }
+
+-- ---- marks that are missing or left over
+
+-- the partition of the next line has no mark for it
+pub no_mark_at : (marked : List (Bor (List ℕ))) (before : List (List ℕ)) (line : List ℕ) (counts : List ℕ) (number : ℕ) (d : Bor (List ℕ)) → number ≡ hash line % length marked → number < length marked
+    → AreTaken (length marked) before counts → length (get_or marked number d).now ≤ get_or counts number 0 → HasNoMark (texts_of marked) before line
+no_mark_at marked before line counts number d is inside h few =
+    let long : length (texts_of marked) ≡ length marked = length-map marked (λ t. t.now) in
+    let text : get_or (texts_of marked) number [] ≡ (get_or marked number d).now = get_or-map (λ t. t.now) marked number d [] inside in
+    subst (λ k. length (get_or (texts_of marked) (hash line % k) []) ≤ length (lines_in k (hash line % k) before)) (sym long)
+    (subst (λ n. length (get_or (texts_of marked) n []) ≤ length (lines_in (length marked) n before)) is (omega (arith, few, ap length text, h number inside)))
+
+pub no_mark : (list rest line after : List ℕ) (marked : List (Bor (List ℕ))) (counts out text : List ℕ) → IsKeeping list rest marked counts out → lines rest ≡ line ∷ lines after
+    → ((before : List (List ℕ)) → AreTaken (length marked) before counts → HasNoMark (texts_of marked) before line) → IsKept list (texts_of marked) text → ⊥
+no_mark list rest line after marked counts out text h first none kept =
+    let k = length (texts_of marked) in
+    let number = hash line % k in
+    let others = lines_in k number (lines after) in
+    let here : is_in k number (hash line) ≡ true = eq-eqb number number refl in
+    let counted : length (lines_in k number (lines list)) ≡ length (lines_in k number h.read) + suc (length others) =
+    ap (λ ls. length (lines_in k number ls)) (h.are_read ∙ ap (λ l. h.read ++ l) first)
+    ∙ ap length (filter-append (λ l. is_in k number (hash l)) h.read (line ∷ lines after))
+    ∙ length-append (lines_in k number h.read) (lines_in k number (line ∷ lines after))
+    ∙ ap (λ b. length (lines_in k number h.read) + length (cond b (line ∷ others) others)) here in
+    omega (arith, none h.read h.are_taken, kept.each number (mod-lt (hash line) kept.some), counted)
+
+-- not all marks were taken
+pub mark_left : (list rest : List ℕ) (marked : List (Bor (List ℕ))) (counts out text : List ℕ) → IsKeeping list rest marked counts out → rest ≡ []
+    → (((n : ℕ) → n < length marked → length (get_or (texts_of marked) n []) ≡ get_or counts n 0) → ⊥) → IsKept list (texts_of marked) text → ⊥
+mark_left list rest marked counts out text h none other kept =
+    let whole = all_lines_read list h.read rest h.are_read none in
+    let long : length marked ≡ length (texts_of marked) = sym (length-map marked (λ t. t.now)) in
+    other (λ n low. kept.each n (subst (λ k. n < k) long low) ∙ sym (h.are_taken n low ∙ (λ i. length (lines_in (long i) n (whole i)))))

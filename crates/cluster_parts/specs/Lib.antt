@@ -7,5 +7,6 @@ pub mod Terms
 pub mod Known
 pub mod Keys
 pub mod Output
+pub mod Input
 pub mod Numbered
 pub mod Laws

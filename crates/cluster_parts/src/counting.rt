@@ -1,14 +1,14 @@
 //! The number of distinct lines.
-ghost use Rattle.std.specs.Prelude.{◌≡◌, ◌++◌, [], List, ℕ, length, IfOk, OnOk};
+ghost use Rattle.std.specs.Prelude.{◌≡◌, ◌++◌, [], List, ℕ, length, IfErr, IfOk, OnOk};
 ghost use Rattle.std.specs.Str.{bytes_eq};
 ghost use Rattle.algebra_model.specs.Bag.{without_repeats};
 ghost use Rattle.nquads_core.specs.Lines.{lines};
-ghost use Rattle.cluster_parts.specs.Seal.{all_sealed};
+ghost use Rattle.cluster_parts.specs.Seal.{AreSealed, IsFaultOf, all_sealed};
 ghost use Rattle.cluster_parts.specs.Known.{AreKnown};
 ghost use Rattle.cluster_parts.specs.Output.{distinct_lines};
 
 use crate::known_lines::add_line;
-use crate::sealing::{SealFault, first_sealed};
+use crate::sealing::{SealFault, first_sealed, length_of};
 use indexmap::IndexSet;
 use keyed_hash::HashState;
 use nquads_core::first_line;
@@ -45,9 +45,13 @@ fn count_known(known: &IndexSet<&[u8], HashState>) -> u64
 /// - `Version` if a text begins with another head.
 /// - `Damaged` if a text is shorter than its length says, or has another checksum.
 /// - `Memory` if an allocation fails.
+///
+/// With `Version` and `Damaged`, the bytes are not sealed texts (`AreSealed`).
 pub fn count_lines(alloc: Global, state: RandomState, bytes: &[u8]) -> Result<u64, SealFault>
     ensures count { IfOk result (λ n. (texts : List (List ℕ)) × (bytes.now ≡ all_sealed texts) × (n ≡ distinct_lines texts)) }
+    ensures fault { IfErr result (IsFaultOf (AreSealed bytes.now) bytes.now) }
 {
+    let _len = length_of(bytes);
     let mut known = IndexSet::with_hasher(alloc, HashState::new(state));
     let mut rest = bytes;
     while !rest.is_empty() {

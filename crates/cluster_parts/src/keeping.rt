@@ -1,19 +1,22 @@
 //! The terms of a block that are new in the document.
-ghost use Rattle.std.specs.Prelude.{◌≡◌, ◌==◌, ◌+◌, ◌^◌, ◌<◌, ◌++◌, ◌∷◌, [], List, ℕ, true, codes, get_or, if◌then◌else◌, length, map, IfOk, IfSome, OnOk, OnSome};
+ghost use Rattle.std.specs.Prelude.{◌≡◌, ◌==◌, ◌+◌, ◌^◌, ◌<◌, ◌≤◌, ◌++◌, ◌∷◌, [], List, ℕ, true, false, codes, get_or, if◌then◌else◌, length, map, IfErr, IfNone, IfOk, IfSome, OnOk, OnSome};
 ghost use Rattle.nquads_core.specs.Lines.{lines};
-ghost use Rattle.cluster_parts.specs.Seal.{all_sealed, sealed};
+ghost use Rattle.cluster_parts.specs.Seal.{IsFaultOf, all_sealed, sealed};
 ghost use Rattle.cluster_parts.specs.Terms.{is_marked, line_list, marked_lines};
-ghost use Rattle.cluster_parts.specs.Known.{AreTaken, texts_of};
+ghost use Rattle.cluster_parts.specs.Known.{AreTaken, HasNoMark, IsDamageOf, texts_of};
 ghost use Rattle.cluster_parts.specs.Output.{IsKept};
+ghost use Rattle.cluster_parts.specs.Input.{AreListAndMarks};
+ghost use Rattle.cluster_parts.specs.declared.sealing.SealFault.TheVariants.{Damaged};
 
 use crate::hashing::hash_of;
-use crate::sealing::{SealFault, first_sealed, sealed_texts};
+use crate::sealing::{SealFault, first_sealed, length_of, sealed_texts};
 use nquads_core::first_line;
 use std::alloc::{AllocError, Global};
 
 /// Returns whether the mark at a place is that of a new line, or None if there is no mark.
 fn mark_at(marks: &[u8], place: usize) -> Option<bool>
     ensures value { IfSome result (λ is_new. is_new ≡ (get_or marks.now place 0 == 1)) }
+    ensures none { IfNone result (length marks.now ≤ place) }
     ensures small { OnSome result (place + 1 < 2 ^ 64) }
 {
     if place >= marks.len() {
@@ -34,6 +37,8 @@ fn take_mark(marks: &[&[u8]], taken: &mut Vec<usize>, line: &[u8]) -> Result<boo
         → is_new ≡ is_marked (texts_of marks.now) before line.now) }
     ensures taken { OnOk result ((before : List (List ℕ)) → AreTaken (length marks.now) before taken.old.items
         → AreTaken (length marks.now) (before ++ line.now ∷ []) taken.new.items) }
+    ensures left { IfErr result (λ fault. (fault ≡ Damaged) × ((before : List (List ℕ))
+        → AreTaken (length marks.now) before taken.old.items → HasNoMark (texts_of marks.now) before line.now)) }
 {
     let number = (hash_of(line) % marks.len() as u64) as usize;
     let place = taken[number];
@@ -61,6 +66,8 @@ fn are_taken(marks: &[&[u8]], taken: &[usize]) -> bool
     requires all { length taken.now ≡ length marks.now }
     ensures each { result ≡ true → (n : ℕ) → n < length marks.now
         → length (get_or (texts_of marks.now) n []) ≡ get_or taken.now n 0 }
+    ensures left { result ≡ false → ((n : ℕ) → n < length marks.now
+        → length (get_or (texts_of marks.now) n []) ≡ get_or taken.now n 0) → ⊥ }
 {
     for n in 0..marks.len() {
         if marks[n].len() != taken[n] {
@@ -73,6 +80,7 @@ fn are_taken(marks: &[&[u8]], taken: &[usize]) -> bool
 /// Returns the lines of a list that have the mark of a new line.
 fn kept_of(alloc: Global, list: &[u8], marks: &[&[u8]]) -> Result<Vec<u8>, SealFault>
     ensures kept { IfOk result (λ text. IsKept list.now (texts_of marks.now) text.items) }
+    ensures damage { IfErr result (IsDamageOf ((text : List ℕ) × IsKept list.now (texts_of marks.now) text)) }
 {
     if marks.is_empty() {
         return Err(SealFault::Damaged);
@@ -96,14 +104,18 @@ fn kept_of(alloc: Global, list: &[u8], marks: &[&[u8]]) -> Result<Vec<u8>, SealF
 /// [`first_terms`](crate::first_terms) returns for the partitions, in order (`IsKept`).
 ///
 /// # Errors
-/// - `Version` if a text begins with another head.
+/// - `Version` if a text begins with another head, or if there is no text.
 /// - `Damaged` if a text is shorter than its length says, or has another checksum, if there is no partition, or if a
 ///   partition does not have one mark for each of its lines.
 /// - `Memory` if an allocation fails.
+///
+/// With `Version` and `Damaged`, the bytes are not a list with its marks (`AreListAndMarks`).
 pub fn keep_terms(alloc: Global, bytes: &[u8]) -> Result<Vec<u8>, SealFault>
     ensures kept { IfOk result (λ text. (list : List ℕ) × (marks : List (List ℕ))
         × (bytes.now ≡ sealed list ++ all_sealed marks) × IsKept list marks text.items) }
+    ensures fault { IfErr result (IsFaultOf (AreListAndMarks bytes.now) bytes.now) }
 {
+    let _len = length_of(bytes);
     let (list, rest) = first_sealed(bytes)?;
     let marks = sealed_texts(alloc, rest)?;
     let text = kept_of(alloc, list, marks.as_slice())?;

@@ -1,13 +1,13 @@
 //! Which lines of the lists of a partition are new.
-ghost use Rattle.std.specs.Prelude.{◌≡◌, ◌++◌, List, ℕ, IfOk, OnOk};
+ghost use Rattle.std.specs.Prelude.{◌≡◌, ◌++◌, List, ℕ, IfErr, IfOk, OnOk};
 ghost use Rattle.nquads_core.specs.Lines.{lines};
-ghost use Rattle.cluster_parts.specs.Seal.{all_sealed};
+ghost use Rattle.cluster_parts.specs.Seal.{AreSealed, IsFaultOf, all_sealed};
 ghost use Rattle.cluster_parts.specs.Terms.{mark, marks};
 ghost use Rattle.cluster_parts.specs.Known.{AreKnown};
 ghost use Rattle.cluster_parts.specs.Output.{AreFirst};
 
 use crate::known_lines::add_line;
-use crate::sealing::{SealFault, first_sealed, push_sealed};
+use crate::sealing::{SealFault, first_sealed, length_of, push_sealed};
 use indexmap::IndexSet;
 use keyed_hash::HashState;
 use nquads_core::first_line;
@@ -50,10 +50,14 @@ fn marks_of<'a>(
 /// - `Version` if a text begins with another head.
 /// - `Damaged` if a text is shorter than its length says, or has another checksum.
 /// - `Memory` if an allocation fails.
+///
+/// With `Version` and `Damaged`, the bytes are not sealed texts (`AreSealed`).
 pub fn first_terms(alloc: Global, state: RandomState, bytes: &[u8]) -> Result<Vec<u8>, SealFault>
     ensures firsts { IfOk result (λ out. (texts : List (List ℕ)) × (firsts : List (List ℕ))
         × (bytes.now ≡ all_sealed texts) × AreFirst texts firsts × (out.items ≡ all_sealed firsts)) }
+    ensures fault { IfErr result (IsFaultOf (AreSealed bytes.now) bytes.now) }
 {
+    let _len = length_of(bytes);
     let mut known = IndexSet::with_hasher(alloc, HashState::new(state));
     let mut out = Vec::new(alloc);
     let mut rest = bytes;

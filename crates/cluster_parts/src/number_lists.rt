@@ -1,10 +1,15 @@
 //! Lists of numbers as texts: the number of bytes of a difference, and the differences.
-ghost use Rattle.std.specs.Prelude.{◌≡◌, ◌≤◌, ◌∷◌, ◌++◌, [], List, ℕ, length, map, IfOk, OnOk};
+ghost use Rattle.std.specs.Prelude.{◌≡◌, ◌+◌, ◌<◌, ◌≤◌, ◌^◌, ◌∷◌, ◌++◌, [], List, ℕ, length, map, IfErr, IfOk, IsSorted, OnOk};
+ghost use Rattle.std.specs.List.{All};
+ghost use Rattle.std.specs.Ordering.{nat_cmp};
 ghost use Rattle.cluster_parts.specs.NumberList.{FitInEightBytes, byte_count, difference, differences, in_bytes, number_list, width};
 ghost use Rattle.cluster_parts.specs.Repeated.{numbers_of};
-ghost use Rattle.cluster_parts.specs.Seal.{all_sealed, sealed};
+ghost use Rattle.cluster_parts.specs.Input.{BeginWithLists};
+ghost use Rattle.cluster_parts.specs.Known.{AreDifferences, HaveSums, IsDamageOf, IsListText};
+ghost use Rattle.cluster_parts.specs.declared.sealing.SealFault.TheVariants.{Damaged};
+ghost use Rattle.cluster_parts.specs.Seal.{IsFaultOf, all_sealed, sealed};
 
-use crate::sealing::{SealFault, first_in_bytes, first_sealed, push_sealed};
+use crate::sealing::{SealFault, first_in_bytes, first_sealed, length_of, push_sealed};
 use std::alloc::{AllocError, Global};
 
 /// Appends a number.
@@ -115,6 +120,8 @@ fn read_in_bytes(alloc: Global, bytes: &[u8], count: usize) -> Result<Vec<u64>, 
     requires some { 1 ≤ count }
     requires most { count ≤ 8 }
     ensures numbers { IfOk result (λ numbers. bytes.now ≡ in_bytes count numbers.items) }
+    ensures fit { IfOk result (λ numbers. All (λ n. n < 256 ^ count) numbers.items) }
+    ensures damage { IfErr result (IsDamageOf ((numbers : List ℕ) × (bytes.now ≡ in_bytes count numbers))) }
 {
     let mut numbers = Vec::new(alloc);
     let mut rest = bytes;
@@ -129,6 +136,8 @@ fn read_in_bytes(alloc: Global, bytes: &[u8], count: usize) -> Result<Vec<u64>, 
 /// Reads the differences of a list. Their width has to be the least: so a list has one text.
 fn read_differences(alloc: Global, bytes: &[u8]) -> Result<Vec<u64>, SealFault>
     ensures read { IfOk result (λ found. bytes.now ≡ width found.items ∷ in_bytes (width found.items) found.items) }
+    ensures fit { IfOk result (λ found. FitInEightBytes found.items) }
+    ensures damage { IfErr result (IsDamageOf (AreDifferences bytes.now)) }
 {
     let Some((first, rest)) = bytes.split_first() else {
         return Err(SealFault::Damaged);
@@ -147,6 +156,8 @@ fn read_differences(alloc: Global, bytes: &[u8]) -> Result<Vec<u64>, SealFault>
 /// Returns the number that comes after another one, from their difference.
 fn next_number(before: u64, step: u64) -> Result<u64, SealFault>
     ensures next { IfOk result (λ n. difference before n ≡ step) }
+    ensures sum { IfOk result (λ n. n ≡ before + step) }
+    ensures large { IfErr result (λ fault. (fault ≡ Damaged) × (2 ^ 64 ≤ before + step)) }
 {
     match before.checked_add(step) {
         Some(n) => Ok(n),
@@ -157,7 +168,8 @@ fn next_number(before: u64, step: u64) -> Result<u64, SealFault>
 /// Appends the numbers that have these differences.
 fn push_sums(numbers: &mut Vec<u64>, found: &[u64]) -> Result<(), SealFault>
     ensures appended { OnOk result ((more : List ℕ) × (differences 0 more ≡ found.now)
-        × (numbers.new.items ≡ numbers.old.items ++ more)) }
+        × (numbers.new.items ≡ numbers.old.items ++ more) × IsSorted nat_cmp more) }
+    ensures damage { IfErr result (IsDamageOf (HaveSums found.now)) }
 {
     let mut before = 0u64;
     for step in found {
@@ -171,7 +183,8 @@ fn push_sums(numbers: &mut Vec<u64>, found: &[u64]) -> Result<(), SealFault>
 /// Reads the text of a list, and appends its numbers.
 fn push_numbers(alloc: Global, numbers: &mut Vec<u64>, bytes: &[u8]) -> Result<(), SealFault>
     ensures appended { OnOk result ((more : List ℕ) × (bytes.now ≡ number_list more)
-        × (numbers.new.items ≡ numbers.old.items ++ more)) }
+        × (numbers.new.items ≡ numbers.old.items ++ more) × IsSorted nat_cmp more) }
+    ensures damage { IfErr result (IsDamageOf (IsListText bytes.now)) }
 {
     let found = read_differences(alloc, bytes)?;
     push_sums(numbers, found.as_slice())?;
@@ -185,6 +198,8 @@ fn push_numbers(alloc: Global, numbers: &mut Vec<u64>, bytes: &[u8]) -> Result<(
 /// - `Memory` if an allocation fails.
 pub(crate) fn numbers_of(alloc: Global, bytes: &[u8]) -> Result<Vec<u64>, SealFault>
     ensures numbers { IfOk result (λ numbers. bytes.now ≡ number_list numbers.items) }
+    ensures ascending { IfOk result (λ numbers. IsSorted nat_cmp numbers.items) }
+    ensures damage { IfErr result (IsDamageOf (IsListText bytes.now)) }
 {
     let mut numbers = Vec::new(alloc);
     push_numbers(alloc, &mut numbers, bytes)?;
@@ -194,10 +209,13 @@ pub(crate) fn numbers_of(alloc: Global, bytes: &[u8]) -> Result<Vec<u64>, SealFa
 /// Splits off the first sealed lists of numbers, of which there are `count`. Returns all their numbers, and what follows.
 ///
 /// # Errors
-/// - `Version` if a text begins with another head.
+/// - `Version` if a text begins with another head, or if there are fewer than `count` texts.
 /// - `Damaged` if a text is shorter than its length says, or has another checksum, or is not a list of numbers in ascending
 ///   order.
 /// - `Memory` if an allocation fails.
+///
+/// With `Version` and `Damaged`, the bytes do not begin with that many sealed lists of numbers in ascending order
+/// (`BeginWithLists`).
 pub fn first_lists<'a>(
     alloc: Global,
     bytes: &'a [u8],
@@ -206,7 +224,10 @@ pub fn first_lists<'a>(
     ensures lists { IfOk result (λ r. (lists : List (List ℕ)) × (length lists ≡ count) × (r.0.items ≡ numbers_of lists)
         × (bytes.now ≡ all_sealed (map number_list lists) ++ r.1.now)) }
     ensures fit { IfOk result (λ r. FitInEightBytes r.0.items) }
+    ensures read { OnOk result (BeginWithLists count bytes.now) }
+    ensures fault { IfErr result (IsFaultOf (BeginWithLists count bytes.now) bytes.now) }
 {
+    let _len = length_of(bytes);
     let mut numbers = Vec::new(alloc);
     let mut rest = bytes;
     for _list in 0..count {

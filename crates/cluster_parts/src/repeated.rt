@@ -1,15 +1,17 @@
 //! The hashes of a partition that occur again.
-ghost use Rattle.std.specs.Prelude.{◌≡◌, ◌∷◌, ◌++◌, [], List, ℕ, filter, length, map, nat_eq, not, IfOk, OnOk, IsPermutation, IsSorted};
+ghost use Rattle.std.specs.Prelude.{◌≡◌, ◌∷◌, ◌++◌, [], List, ℕ, filter, length, map, nat_eq, not, IfErr, IfOk, OnOk, IsPermutation, IsSorted};
+ghost use Rattle.std.specs.List.{All};
 ghost use Rattle.std.specs.Ordering.{nat_cmp};
 ghost use Rattle.indexmap.specs.IndexSet.{contains, insert_key};
 ghost use Rattle.cluster_parts.specs.Hash.{number_bytes};
-ghost use Rattle.cluster_parts.specs.Seal.{all_sealed, sealed};
+ghost use Rattle.cluster_parts.specs.Seal.{IsFaultOf, all_sealed, sealed};
 ghost use Rattle.cluster_parts.specs.NumberList.{FitInEightBytes, number_list};
 ghost use Rattle.cluster_parts.specs.Repeated.{has, is_repeated, numbers_of, repeated_in, single};
 ghost use Rattle.cluster_parts.specs.Known.{items_of};
+ghost use Rattle.cluster_parts.specs.Input.{AreSealedLists};
 
 use crate::number_lists::{numbers_fit, numbers_of, push_one, push_sealed_list};
-use crate::sealing::{SealFault, first_sealed, push_sealed_number};
+use crate::sealing::{SealFault, first_sealed, length_of, push_sealed_number};
 use indexmap::IndexSet;
 use keyed_hash::HashState;
 use std::alloc::{AllocError, Global};
@@ -120,7 +122,10 @@ fn push_list(lists: &mut Vec<Vec<u64>>, list: Vec<u64>) -> Result<(), AllocError
 /// Reads sealed lists of numbers.
 fn read_lists(alloc: Global, bytes: &[u8]) -> Result<Vec<Vec<u64>>, SealFault>
     ensures lists { IfOk result (λ lists. bytes.now ≡ all_sealed (map number_list (items_of lists.items))) }
+    ensures ascending { IfOk result (λ lists. All (IsSorted nat_cmp) (items_of lists.items)) }
+    ensures fault { IfErr result (IsFaultOf (AreSealedLists bytes.now) bytes.now) }
 {
+    let _len = length_of(bytes);
     let mut lists = Vec::new(alloc);
     let mut rest = bytes;
     while !rest.is_empty() {
@@ -177,6 +182,8 @@ fn push_lists_in(
 /// - `Damaged` if a text is shorter than its length says, or has another checksum, or is not a list of numbers in
 ///   ascending order.
 /// - `Memory` if an allocation fails.
+///
+/// With `Version` and `Damaged`, the bytes are not sealed lists of numbers in ascending order (`AreSealedLists`).
 pub fn repeated_hashes(
     alloc: Global,
     state: RandomState,
@@ -186,6 +193,8 @@ pub fn repeated_hashes(
         × (bytes.now ≡ all_sealed (map number_list lists))
         × (out.items ≡ sealed (number_bytes (length (single (numbers_of lists))))
         ++ all_sealed (map number_list (repeated_in lists)))) }
+    ensures read { OnOk result (AreSealedLists bytes.now) }
+    ensures fault { IfErr result (IsFaultOf (AreSealedLists bytes.now) bytes.now) }
 {
     let lists = read_lists(alloc, bytes)?;
     let (count, again) = repeated_of(alloc, state, lists.as_slice())?;

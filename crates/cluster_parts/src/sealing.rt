@@ -1,9 +1,10 @@
 //! Texts with a head, a length and a checksum.
-ghost use Rattle.std.specs.Prelude.{◌≡◌, ◌≤◌, ◌∷◌, ◌++◌, [], List, ℕ, length, IfOk, OnOk};
+ghost use Rattle.std.specs.Prelude.{◌≡◌, ◌<◌, ◌≤◌, ◌^◌, ◌∷◌, ◌++◌, [], List, ℕ, length, IfErr, IfOk, OnOk};
 ghost use Rattle.byteorder.specs.Endian.{little_bytes};
 ghost use Rattle.cluster_parts.specs.Hash.{hash, number_bytes};
-ghost use Rattle.cluster_parts.specs.Seal.{all_sealed, joined_texts, seal_head, sealed};
-ghost use Rattle.cluster_parts.specs.Known.{texts_of};
+ghost use Rattle.cluster_parts.specs.Seal.{AreSealed, HasNoHead, IsFaultOf, all_sealed, joined_texts, seal_head, sealed};
+ghost use Rattle.cluster_parts.specs.Known.{BeginsChecked, BeginsSealed, texts_of};
+ghost use Rattle.cluster_parts.specs.declared.sealing.SealFault.TheVariants.{Version, Damaged};
 
 use crate::hashing::hash_of;
 use byteorder::{ByteOrder, LittleEndian};
@@ -68,9 +69,17 @@ pub(crate) fn push_sealed(out: &mut Vec<u8>, text: &[u8]) -> Result<(), AllocErr
     Ok(())
 }
 
+/// Returns the number of bytes. As a `usize` it is below 2^64: proofs need this, since the length of a text has eight bytes.
+pub(crate) fn length_of(bytes: &[u8]) -> usize
+    ensures value { result ≡ length bytes.now }
+{
+    bytes.len()
+}
+
 /// Splits off the head of a sealed text, or returns `Version`.
 fn skip_head(bytes: &[u8]) -> Result<&[u8], SealFault>
     ensures parts { IfOk result (λ rest. bytes.now ≡ seal_head ++ rest.now) }
+    ensures other { IfErr result (λ fault. (fault ≡ Version) × HasNoHead bytes.now) }
 {
     match bytes.strip_prefix(HEAD) {
         Some(rest) => Ok(rest),
@@ -83,6 +92,8 @@ pub(crate) fn first_in_bytes(bytes: &[u8], count: usize) -> Result<(u64, &[u8]),
     requires some { 1 ≤ count }
     requires most { count ≤ 8 }
     ensures parts { IfOk result (λ r. bytes.now ≡ little_bytes count r.0 ++ r.1.now) }
+    ensures fits { IfOk result (λ r. r.0 < 256 ^ count) }
+    ensures short { IfErr result (λ fault. (fault ≡ Damaged) × (length bytes.now < count)) }
 {
     if bytes.len() < count {
         return Err(SealFault::Damaged);
@@ -91,13 +102,14 @@ pub(crate) fn first_in_bytes(bytes: &[u8], count: usize) -> Result<(u64, &[u8]),
     Ok((LittleEndian::read_uint(number, count), rest))
 }
 
-/// Splits off a text of this length and with this checksum.
+/// Splits off a text of this length and with this checksum, or returns `Damaged`.
 fn checked_text(bytes: &[u8], len: u64, checksum: u64) -> Result<(&[u8], &[u8]), SealFault>
     ensures parts { IfOk result (λ r. bytes.now ≡ r.0.now ++ r.1.now) }
     ensures len { IfOk result (λ r. len ≡ length r.0.now) }
     ensures checksum { IfOk result (λ r. checksum ≡ hash r.0.now) }
+    ensures damage { IfErr result (λ fault. (fault ≡ Damaged) × (BeginsChecked len checksum bytes.now → ⊥)) }
 {
-    if len > bytes.len() as u64 {
+    if len > length_of(bytes) as u64 {
         return Err(SealFault::Damaged);
     }
     let (text, after) = bytes.split_at(len as usize);
@@ -110,6 +122,7 @@ fn checked_text(bytes: &[u8], len: u64, checksum: u64) -> Result<(&[u8], &[u8]),
 /// Splits off the first sealed text.
 pub(crate) fn first_sealed(bytes: &[u8]) -> Result<(&[u8], &[u8]), SealFault>
     ensures parts { IfOk result (λ r. bytes.now ≡ sealed r.0.now ++ r.1.now) }
+    ensures fault { IfErr result (IsFaultOf (BeginsSealed bytes.now) bytes.now) }
 {
     let first = skip_head(bytes)?;
     let (len, second) = first_in_bytes(first, 8)?;
@@ -124,10 +137,14 @@ pub(crate) fn first_sealed(bytes: &[u8]) -> Result<(&[u8], &[u8]), SealFault>
 /// - `Version` if a text begins with another head.
 /// - `Damaged` if a text is shorter than its length says, or has another checksum.
 /// - `Memory` if an allocation fails.
+///
+/// With `Version` and `Damaged`, the bytes are not sealed texts (`AreSealed`).
 pub fn join_sealed(alloc: Global, bytes: &[u8]) -> Result<Vec<u8>, SealFault>
     ensures texts { IfOk result (λ joined. (texts : List (List ℕ))
         × (bytes.now ≡ all_sealed texts) × (joined.items ≡ joined_texts texts)) }
+    ensures fault { IfErr result (IsFaultOf (AreSealed bytes.now) bytes.now) }
 {
+    let _len = length_of(bytes);
     let mut joined = Vec::new(alloc);
     let mut rest = bytes;
     while !rest.is_empty() {
@@ -144,7 +161,9 @@ pub fn join_sealed(alloc: Global, bytes: &[u8]) -> Result<Vec<u8>, SealFault>
 /// As [`join_sealed`].
 pub(crate) fn sealed_texts<'a>(alloc: Global, bytes: &'a [u8]) -> Result<Vec<&'a [u8]>, SealFault>
     ensures texts { IfOk result (λ texts. bytes.now ≡ all_sealed (texts_of texts.items)) }
+    ensures fault { IfErr result (IsFaultOf (AreSealed bytes.now) bytes.now) }
 {
+    let _len = length_of(bytes);
     let mut texts = Vec::new(alloc);
     let mut rest = bytes;
     while !rest.is_empty() {

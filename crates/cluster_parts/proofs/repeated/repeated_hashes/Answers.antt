@@ -10,10 +10,11 @@ use Rattle.cluster_parts.proofs.repeated.repeated_hashes.Goals as goal
 pub returns : goal.returns
 returns c =
     let lists = items_of c.in_ok-lists.lists.items in
+    let fit = subst (λ l. FitInEightBytes (numbers_of (items_of l))) c.as_slice.ensures.value c.in_ok-count.ensures.fit in
     let again = contains nat_eq c.in_ok-count.again in record {
       found = (
         lists,
-        subst (λ l. FitInEightBytes (numbers_of (items_of l))) c.as_slice.ensures.value c.in_ok-count.ensures.fit,
+        fit,
         c.in_ok-lists.ensures.lists,
         repeated_lists again c.in_ok-count.count lists _ _ _
             (c.in_ok-count.ensures.single ∙ ap (λ l. length (single (numbers_of (items_of l)))) c.as_slice.ensures.value)
@@ -22,4 +23,6 @@ returns c =
             (c.in_ok-push_lists_in.ensures.appended
             ∙ ap (λ l. c.push_sealed_number.new.out.items ++ all_sealed (map (λ list. number_list (filter again list)) (items_of l))) c.as_slice-2.ensures.value),
       );
+      read = (lists, (c.in_ok-lists.ensures.ascending, fit), c.in_ok-lists.ensures.lists);
+      fault = tt;
     }
