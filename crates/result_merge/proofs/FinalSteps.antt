@@ -22,7 +22,7 @@ members_are : (row : Row) (cs : List Column) → row_members row (map begun cs) 
 members_are row [] = refl
 members_are row (c ∷ cs) = λ i. member_is c.0 (get_or row c.1 None) i ++ members_are row cs i
 
-text_is : (vars : List (List ℕ)) (made : List CodeColumn) → AreColumns vars made → (row : Row) → text_of made row ≡ row_text (columns vars) row
+pub text_is : (vars : List (List ℕ)) (made : List CodeColumn) → AreColumns vars made → (row : Row) → text_of made row ≡ row_text (columns vars) row
 text_is vars made h row = λ i. codes "{" ++ (separated ((ap (row_members row) h ∙ members_are row (columns vars)) i) ++ codes "}")
 
 texts_are : (vars : List (List ℕ)) (made : List CodeColumn) → AreColumns vars made → (table : List ReadRow) → Each (HasText (text_of made)) table → texts_of table ≡ map (row_text (columns vars)) (rows_of table)

@@ -1,9 +1,15 @@
+pub mod FaultSteps
 pub mod ReadSteps
 pub mod LoopSteps
 pub mod PlaceLaws
 pub mod MergeSteps
 pub mod FinalSteps
 pub mod StringLaws
+pub mod StringSteps
 pub mod TermTextLaws
+pub mod TermSteps
 pub mod TableLaws
 pub mod UniqueLaws
+pub mod RowSteps
+pub mod ListSteps
+pub mod ResultSteps

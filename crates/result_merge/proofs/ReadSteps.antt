@@ -1,8 +1,6 @@
 -- One more part of a result that is read.
 use Rattle.std.proofs.Common.{◌≡◌, ℕ, zero, suc, ◌+◌, ◌-◌, ◌<◌, ◌≤◌, ◌||◌, Bool, true, false, nat_eq, List, [], ◌∷◌, ◌++◌, length, get_or, take, set, map, flat_map, Option, None, Some, is_some, codes, refl, sym, ap, subst, ◌∙◌, arith, append_assoc, append-nil, eq-eqb, length-append, length-set}
 use Rattle.std.specs.List.{list_all, list_any}
-use Rattle.std.specs.Prelude.{MatchOption, IfSome}
-use Rattle.std.specs.Borrow.{Bor}
 use Rattle.std.specs.Str.{bytes_eq}
 use Rattle.std.proofs.lemmas.Slice.Eq.{bytes_eq-Decides}
 use Rattle.std.proofs.Math.Seq.{take-append_seam}
@@ -178,11 +176,6 @@ typed_read bytes datatype lexical after last rest e f g h =
     e ∙ ap (λ r. codes "{\"datatype\":" ++ (string_text datatype ++ r)) (f ∙ ap (λ r. codes ",\"type\":\"literal\",\"value\":" ++ (string_text lexical ++ r)) g)
     ∙ in_frames (codes "{\"datatype\":") (string_text datatype) (codes ",\"type\":\"literal\",\"value\":") (string_text lexical) (codes "}") rest
     ∙ ap (λ x. x ++ rest) (sym (plain_text_is (Literal lexical datatype None) lexical datatype None false refl refl h))
-
--- what `strip_prefix` ensures of its rest
-pub some_rest : (r : Option (Bor (List ℕ))) (bytes head : List ℕ) → MatchOption r ((rest : List ℕ) → bytes ≡ head ++ rest → ⊥) (λ x. bytes ≡ head ++ x.now) → IfSome r (λ x. bytes ≡ head ++ x.now)
-some_rest None bytes head h = tt
-some_rest (Some x) bytes head h = h
 
 -- one more row after a comma
 pub others_step : (rows : List ReadRow) (i : ℕ) (row : ReadRow) (before old out new : List ℕ) → i < length rows → row ≡ get_or rows i row

@@ -26,14 +26,14 @@ head l = get_or l 0 0
 abbrev pub names_of : List Column → List (List ℕ)
 names_of cs = map (λ c. c.0) cs
 
-opened : (later : Bool) (name : List ℕ) (t : Term) (ms : List (List ℕ)) (a : List ℕ)
+pub opened : (later : Bool) (name : List ℕ) (t : Term) (ms : List (List ℕ)) (a : List ℕ)
     → comma_texts later ((string_text name ++ 58 ∷ term_text t) ∷ ms) ++ a ≡ comma later ++ (string_text name ++ 58 ∷ (term_text t ++ (comma_texts true ms ++ a)))
 opened later name t ms a =
     ap (λ l. l ++ a) (comma_texts-cons later (string_text name ++ 58 ∷ term_text t) ms)
     ∙ framed (comma later) (string_text name ++ 58 ∷ term_text t) (comma_texts true ms) a
     ∙ ap (λ r. comma later ++ r) (append_assoc (string_text name) (58 ∷ term_text t) (comma_texts true ms ++ a))
 
-cell_at : (row : Row) (i : ℕ) → Each HasTagType row → HasTagType (get_or row i None)
+pub cell_at : (row : Row) (i : ℕ) → Each HasTagType row → HasTagType (get_or row i None)
 cell_at [] i h = tt
 cell_at (o ∷ row) zero h = h.0
 cell_at (o ∷ row) (suc i) h = cell_at row i h.1
@@ -47,7 +47,7 @@ right_false true b e = absurd (false≢true (sym e))
 right_false false b e = e
 
 -- a member with another name, or the end, does not begin with this name
-no_other : (cs : List Column) (row : Row) (later : Bool) (name x a : List ℕ) → list_any (bytes_eq name) (names_of cs) ≡ false
+pub no_other : (cs : List Column) (row : Row) (later : Bool) (name x a : List ℕ) → list_any (bytes_eq name) (names_of cs) ≡ false
     → comma later ++ (string_text name ++ x) ≡ comma_texts later (members row cs) ++ 125 ∷ a → ⊥
 no_other [] row true name x a h e = absurd (omega (arith, ap head e))
 no_other [] row false name x a h e = absurd (omega (arith, ap head e))
@@ -87,15 +87,17 @@ members_same (c ∷ cs) r s later a b once h k e =
 
 -- ---- lists
 
+-- one element, and what follows it
+pub element : {X : Type 0} (text : X → List ℕ) (later : Bool) (x : X) (xs : List X) (a : List ℕ)
+    → comma_texts later (text x ∷ map text xs) ++ a ≡ comma later ++ (text x ++ (comma_texts true (map text xs) ++ a))
+element text later x xs a = ap (λ l. l ++ a) (comma_texts-cons later (text x) (map text xs)) ∙ framed (comma later) (text x) (comma_texts true (map text xs)) a
+
+none : (later : Bool) (a : List ℕ) → comma_texts later [] ++ a ≡ a
+none true a = refl
+none false a = refl
+
 module _ {X : Type 0} (text : X → List ℕ) (Good : X → Type 0) (same : (x y : X) → Good x → Good y → (a b : List ℕ) → text x ++ a ≡ text y ++ b → (x ≡ y) × (a ≡ b))
     (starts : (x : X) (a : List ℕ) → head (text x ++ a) ≡ 93 → ⊥) where
-  element : (later : Bool) (x : X) (xs : List X) (a : List ℕ) → comma_texts later (text x ∷ map text xs) ++ a ≡ comma later ++ (text x ++ (comma_texts true (map text xs) ++ a))
-  element later x xs a = ap (λ l. l ++ a) (comma_texts-cons later (text x) (map text xs)) ∙ framed (comma later) (text x) (comma_texts true (map text xs)) a
-
-  none : (later : Bool) (a : List ℕ) → comma_texts later [] ++ a ≡ a
-  none true a = refl
-  none false a = refl
-
   no_end : (later : Bool) (x : X) (r a : List ℕ) → comma later ++ (text x ++ r) ≡ 93 ∷ a → ⊥
   no_end true x r a e = absurd (omega (arith, ap head e))
   no_end false x r a e = starts x r (ap head e)
@@ -104,9 +106,9 @@ module _ {X : Type 0} (text : X → List ℕ) (Good : X → Type 0) (same : (x y
   pub list_same : (xs ys : List X) (later : Bool) (a b : List ℕ) → Each Good xs → Each Good ys
       → comma_texts later (map text xs) ++ 93 ∷ a ≡ comma_texts later (map text ys) ++ 93 ∷ b → (xs ≡ ys) × (a ≡ b)
   list_same [] [] later a b h k e = (refl, ap (drop 1) (sym (none later (93 ∷ a)) ∙ e ∙ none later (93 ∷ b)))
-  list_same [] (y ∷ ys) later a b h k e = absurd (no_end later y _ a (sym (element later y ys (93 ∷ b)) ∙ sym e ∙ none later (93 ∷ a)))
-  list_same (x ∷ xs) [] later a b h k e = absurd (no_end later x _ b (sym (element later x xs (93 ∷ a)) ∙ e ∙ none later (93 ∷ b)))
+  list_same [] (y ∷ ys) later a b h k e = absurd (no_end later y _ a (sym (element text later y ys (93 ∷ b)) ∙ sym e ∙ none later (93 ∷ a)))
+  list_same (x ∷ xs) [] later a b h k e = absurd (no_end later x _ b (sym (element text later x xs (93 ∷ a)) ∙ e ∙ none later (93 ∷ b)))
   list_same (x ∷ xs) (y ∷ ys) later a b h k e =
-      let s = same x y h.0 k.0 _ _ (append_cancel_left (comma later) _ _ (sym (element later x xs (93 ∷ a)) ∙ e ∙ element later y ys (93 ∷ b))) in
+      let s = same x y h.0 k.0 _ _ (append_cancel_left (comma later) _ _ (sym (element text later x xs (93 ∷ a)) ∙ e ∙ element text later y ys (93 ∷ b))) in
       let others = list_same xs ys true a b h.1 k.1 s.1 in
       ((λ i. s.0 i ∷ others.0 i), others.1)

@@ -7,6 +7,7 @@ use Rattle.rdf_core.specs.Vocabulary.{rdf_lang_string, xsd_string}
 use Rattle.rdf_core.specs.declared.term.Term.{Term}
 use Rattle.rdf_core.specs.declared.term.Term.TheVariants.{Blank, Iri, Literal}
 use Rattle.result_json.specs.Results.{string_text, term_text}
+use Rattle.result_merge.specs.Absent.{literal_end}
 use Rattle.result_merge.specs.Tags.{HasTagType}
 use Rattle.result_merge.proofs.StringLaws.{string_same}
 
@@ -20,18 +21,14 @@ framed_two f s g t c a = framed f s (g ++ (t ++ c)) a ∙ ap (λ r. f ++ (s ++ r
 
 -- ---- terms by two tests, a string, a datatype and a tag
 
-abbrev tag_text : Option (List ℕ) → List ℕ
-tag_text None = codes "}"
-tag_text (Some tag) = codes ",\"xml:lang\":" ++ (string_text tag ++ codes "}")
-
 abbrev tag_type : Option (List ℕ) → List ℕ
 tag_type None = xsd_string
 tag_type (Some tag) = rdf_lang_string
 
-abbrev text : Bool → Bool → List ℕ → List ℕ → Option (List ℕ) → List ℕ
+abbrev pub text : Bool → Bool → List ℕ → List ℕ → Option (List ℕ) → List ℕ
 text true true l d o = codes "{\"type\":\"bnode\",\"value\":" ++ (string_text l ++ codes "}")
 text true false l d o = codes "{\"type\":\"uri\",\"value\":" ++ (string_text l ++ codes "}")
-text false true l d o = codes "{\"type\":\"literal\",\"value\":" ++ (string_text l ++ tag_text o)
+text false true l d o = codes "{\"type\":\"literal\",\"value\":" ++ (string_text l ++ literal_end o)
 text false false l d o = codes "{\"datatype\":" ++ (string_text d ++ (codes ",\"type\":\"literal\",\"value\":" ++ (string_text l ++ codes "}")))
 
 abbrev term : Bool → Bool → List ℕ → List ℕ → Option (List ℕ) → Term
@@ -41,35 +38,35 @@ term false true l d o = Literal l (tag_type o) o
 term false false l d o = Literal l d None
 
 -- the byte at place 9 shows the tests
-abbrev byte_of : Bool → Bool → ℕ
+abbrev pub byte_of : Bool → Bool → ℕ
 byte_of true true = 98
 byte_of true false = 117
 byte_of false true = 108
 byte_of false false = 101
 
-abbrev first_test : ℕ → Bool
+abbrev pub first_test : ℕ → Bool
 first_test c = (c == 98) || (c == 117)
 
-abbrev second_test : ℕ → Bool
+abbrev pub second_test : ℕ → Bool
 second_test c = (c == 98) || (c == 108)
 
-byte_read : (p q : Bool) (l d : List ℕ) (o : Option (List ℕ)) (a : List ℕ) → get_or (text p q l d o ++ a) 9 0 ≡ byte_of p q
-byte_read true true l d o a = refl
-byte_read true false l d o a = refl
-byte_read false true l d o a = refl
-byte_read false false l d o a = refl
+pub byte_shown : (p q : Bool) (l d : List ℕ) (o : Option (List ℕ)) (a : List ℕ) → get_or (text p q l d o ++ a) 9 0 ≡ byte_of p q
+byte_shown true true l d o a = refl
+byte_shown true false l d o a = refl
+byte_shown false true l d o a = refl
+byte_shown false false l d o a = refl
 
-first_read : (p q : Bool) → first_test (byte_of p q) ≡ p
-first_read true true = refl
-first_read true false = refl
-first_read false true = refl
-first_read false false = refl
+pub first_shown : (p q : Bool) → first_test (byte_of p q) ≡ p
+first_shown true true = refl
+first_shown true false = refl
+first_shown false true = refl
+first_shown false false = refl
 
-second_read : (p q : Bool) → second_test (byte_of p q) ≡ q
-second_read true true = refl
-second_read true false = refl
-second_read false true = refl
-second_read false false = refl
+pub second_shown : (p q : Bool) → second_test (byte_of p q) ≡ q
+second_shown true true = refl
+second_shown true false = refl
+second_shown false true = refl
+second_shown false false = refl
 
 one_same : (f l m a b : List ℕ) → (f ++ (string_text l ++ codes "}")) ++ a ≡ (f ++ (string_text m ++ codes "}")) ++ b → (l ≡ m) × (a ≡ b)
 one_same f l m a b e =
@@ -77,7 +74,7 @@ one_same f l m a b e =
     (append_cancel_left f _ _ (sym (framed f (string_text l) (codes "}") a) ∙ e ∙ framed f (string_text m) (codes "}") b)) in
     (s.0, ap (drop 1) s.1)
 
-tag_same : (o p : Option (List ℕ)) (a b : List ℕ) → tag_text o ++ a ≡ tag_text p ++ b → (o ≡ p) × (a ≡ b)
+tag_same : (o p : Option (List ℕ)) (a b : List ℕ) → literal_end o ++ a ≡ literal_end p ++ b → (o ≡ p) × (a ≡ b)
 tag_same None None a b e = (refl, ap (drop 1) e)
 tag_same None (Some u) a b e = absurd (omega (arith, ap (λ l. get_or l 0 0) e))
 tag_same (Some t) None a b e = absurd (omega (arith, ap (λ l. get_or l 0 0) e))
@@ -88,7 +85,7 @@ by_tests true true l d o m c n a b e = let s = one_same (codes "{\"type\":\"bnod
 by_tests true false l d o m c n a b e = let s = one_same (codes "{\"type\":\"uri\",\"value\":") l m a b e in ((λ i. Iri (s.0 i)), s.1)
 by_tests false true l d o m c n a b e =
     let f = codes "{\"type\":\"literal\",\"value\":" in
-    let s = string_same l m (tag_text o ++ a) (tag_text n ++ b) (append_cancel_left f _ _ (sym (framed f (string_text l) (tag_text o) a) ∙ e ∙ framed f (string_text m) (tag_text n) b)) in
+    let s = string_same l m (literal_end o ++ a) (literal_end n ++ b) (append_cancel_left f _ _ (sym (framed f (string_text l) (literal_end o) a) ∙ e ∙ framed f (string_text m) (literal_end n) b)) in
     let t = tag_same o n a b s.1 in
     ((λ i. Literal (s.0 i) (tag_type (t.0 i)) (t.0 i)), t.1)
 by_tests false false l d o m c n a b e =
@@ -101,9 +98,9 @@ by_tests false false l d o m c n a b e =
 
 same : (p q r s : Bool) (l d : List ℕ) (o : Option (List ℕ)) (m c : List ℕ) (n : Option (List ℕ)) (a b : List ℕ) → text p q l d o ++ a ≡ text r s m c n ++ b → (term p q l d o ≡ term r s m c n) × (a ≡ b)
 same p q r s l d o m c n a b e =
-    let byte : byte_of p q ≡ byte_of r s = sym (byte_read p q l d o a) ∙ ap (λ x. get_or x 9 0) e ∙ byte_read r s m c n b in
-    let one : p ≡ r = sym (first_read p q) ∙ ap first_test byte ∙ first_read r s in
-    let two : q ≡ s = sym (second_read p q) ∙ ap second_test byte ∙ second_read r s in
+    let byte : byte_of p q ≡ byte_of r s = sym (byte_shown p q l d o a) ∙ ap (λ x. get_or x 9 0) e ∙ byte_shown r s m c n b in
+    let one : p ≡ r = sym (first_shown p q) ∙ ap first_test byte ∙ first_shown r s in
+    let two : q ≡ s = sym (second_shown p q) ∙ ap second_test byte ∙ second_shown r s in
     let found = by_tests p q l d o m c n a b (e ∙ (λ i. text (sym one i) (sym two i) m c n ++ b)) in
     (found.0 ∙ (λ i. term (one i) (two i) m c n), found.1)
 

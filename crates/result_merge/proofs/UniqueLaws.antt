@@ -25,7 +25,7 @@ numbered_names : (k : ℕ) (vars : List (List ℕ)) → names_of (numbered k var
 numbered_names k [] = refl
 numbered_names k (x ∷ vars) = ap (λ l. x ∷ l) (numbered_names (suc k) vars)
 
-names_once : (vars : List (List ℕ)) → IsWithoutRepeats bytes_eq vars → IsWithoutRepeats bytes_eq (names_of (columns vars))
+pub names_once : (vars : List (List ℕ)) → IsWithoutRepeats bytes_eq vars → IsWithoutRepeats bytes_eq (names_of (columns vars))
 names_once vars once =
     once-IsPermutation bytes_eq bytes_eq-Decides (names_of (numbered 0 vars)) (names_of (columns vars))
     (IsPermutation-map (λ (c : Column). c.0) (numbered 0 vars) (columns vars) (columns_bag vars)) (subst (IsWithoutRepeats bytes_eq) (sym (numbered_names 0 vars)) once)
@@ -60,20 +60,20 @@ row_same vars once r s h k a b e =
     let m = members_same cs r s false a b (names_once vars once) h.1 k.1 inside in
     (rows_agree vars r s h.0 k.0 m.0, m.1)
 
-row_start : (cs : List Column) (r : Row) (a : List ℕ) → head (row_text cs r ++ a) ≡ 93 → ⊥
+pub row_start : (cs : List Column) (r : Row) (a : List ℕ) → head (row_text cs r ++ a) ≡ 93 → ⊥
 row_start cs r a e = absurd (omega (arith, e))
 
 -- ---- documents
 
-any_name : (xs : List (List ℕ)) → Each (λ _. ⊤) xs
+pub any_name : (xs : List (List ℕ)) → Each (λ _. ⊤) xs
 any_name [] = tt
 any_name (x ∷ xs) = (tt, any_name xs)
 
 -- the rows of a document, and what follows them
-abbrev body : List (List ℕ) → Table → List ℕ → List ℕ
+abbrev pub body : List (List ℕ) → Table → List ℕ → List ℕ
 body vars rows a = separated (map (row_text (columns vars)) rows) ++ (codes "]}}\n" ++ a)
 
-opened : (vars : List (List ℕ)) (rows : Table) (a : List ℕ) → json vars rows ++ a ≡ codes "{\"head\":{\"vars\":[" ++ (separated (map string_text vars) ++ (codes "]},\"results\":{\"bindings\":[" ++ body vars rows a))
+pub opened : (vars : List (List ℕ)) (rows : Table) (a : List ℕ) → json vars rows ++ a ≡ codes "{\"head\":{\"vars\":[" ++ (separated (map string_text vars) ++ (codes "]},\"results\":{\"bindings\":[" ++ body vars rows a))
 unfolding json
 opened vars rows a =
     framed_two (codes "{\"head\":{\"vars\":[") (separated (map string_text vars)) (codes "]},\"results\":{\"bindings\":[") (separated (map (row_text (columns vars)) rows)) (codes "]}}\n") a

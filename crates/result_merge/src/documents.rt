@@ -1,20 +1,23 @@
 //! Results, as `spq select` prints them (SPARQL 1.1 Query Results JSON Format, sections 3.1 and 3.2).
-ghost use Rattle.std.specs.Prelude.{◌≡◌, [], ◌∷◌, ◌++◌, List, map, flat_map, IfOk, OnOk};
+ghost use Rattle.std.specs.Prelude.{◌≡◌, [], ◌∷◌, ◌++◌, ℕ, List, map, flat_map, IfErr, IfOk, MatchResult, OnOk};
 ghost use Rattle.result_json.specs.Results.{separated, string_text};
 ghost use Rattle.result_json.specs.Texts.{head_text};
 ghost use Rattle.algebra_model.specs.Pieces.{joined};
 ghost use Rattle.algebra_model.specs.Renaming.{Each};
+ghost use Rattle.result_merge.specs.Absent.{AreNoDocuments, AreNoNames, AreNoRows, IsAfterDocument, IsAfterRows, IsNoDocument, IsNoHead};
 ghost use Rattle.result_merge.specs.Reading.{HavePlaces, IsRead, ReadRow, comma, document_text, texts_of};
+ghost use Rattle.result_merge.specs.declared.fault.MergeFault.TheVariants.{Damaged};
 
 use crate::fault::MergeFault;
 use crate::rows::{Column, ReadRow, after_comma, read_row};
-use crate::strings::{after, read_string};
+use crate::strings::{after, begins_with, read_string};
 use rdf_core::Text;
 use std::alloc::{AllocError, Global};
 
 /// Splits off a comma, unless this is the first element, or returns `Damaged`.
 fn skip_comma(bytes: &[u8], later: bool) -> Result<&[u8], MergeFault>
-    ensures parts { IfOk result (λ rest. bytes.now ≡ comma later ++ rest.now) }
+    ensures parts { MatchResult result (λ rest. bytes.now ≡ comma later ++ rest.now)
+        (λ _. (rest : List ℕ) → bytes.now ≡ comma later ++ rest → ⊥) }
 {
     match after_comma(bytes, later) {
         Some(rest) => Ok(rest),
@@ -41,11 +44,13 @@ fn push_row<'a>(rows: &mut Vec<ReadRow<'a>>, row: ReadRow<'a>) -> Result<(), All
 /// Reads the names of the variables.
 fn read_names<'a>(alloc: Global, bytes: &'a [u8]) -> Result<(Vec<Text>, &'a [u8]), MergeFault>
     ensures parts { IfOk result (λ r. bytes.now ≡ separated (map string_text r.0.items) ++ r.1.now) }
+    ensures closed { IfOk result (λ r. (rest : List ℕ) × (r.1.now ≡ 93 ∷ rest)) }
+    ensures damaged { IfErr result (λ fault. fault ≡ Damaged → AreNoNames bytes.now) }
 {
     let mut names = Vec::new(alloc);
     let mut rest = bytes;
     let mut later = false;
-    'reading: while !rest.starts_with(b"]") {
+    'reading: while !begins_with(rest, b"]") {
         let next = skip_comma(rest, later)?;
         let (name, end) = read_string(alloc, next)?;
         push_name(&mut names, name)?;
@@ -65,6 +70,7 @@ pub(crate) fn read_head<'a>(
     bytes: &'a [u8],
 ) -> Result<(Vec<Text>, &'a [u8]), MergeFault>
     ensures parts { IfOk result (λ r. bytes.now ≡ head_text r.0.items ++ r.1.now) }
+    ensures damaged { IfErr result (λ fault. fault ≡ Damaged → IsNoHead bytes.now) }
 {
     let list = after(bytes, b"{\"head\":{\"vars\":[")?;
     let (names, closing) = read_names(alloc, list)?;
@@ -83,10 +89,12 @@ fn read_rows<'a>(
     requires places { HavePlaces width columns.now }
     ensures rows { IfOk result (λ rest. (table : List ReadRow) × (read.new.items ≡ read.old.items ++ table)
         × Each (IsRead width columns.now) table × (bytes.now ≡ separated (texts_of table) ++ rest.now)) }
+    ensures after { IfOk result (λ rest. IsAfterRows columns.now bytes.now rest.now) }
+    ensures damaged { IfErr result (λ fault. fault ≡ Damaged → AreNoRows columns.now bytes.now) }
 {
     let mut rest = bytes;
     let mut later = false;
-    'reading: while !rest.starts_with(b"]") {
+    'reading: while !begins_with(rest, b"]") {
         let next = skip_comma(rest, later)?;
         let (row, end) = read_row(alloc, next, columns, width)?;
         push_row(read, row)?;
@@ -108,6 +116,8 @@ fn read_document<'a>(
     requires places { HavePlaces width columns.now }
     ensures rows { IfOk result (λ rest. (table : List ReadRow) × (read.new.items ≡ read.old.items ++ table)
         × Each (IsRead width columns.now) table × (bytes.now ≡ document_text head.now table ++ rest.now)) }
+    ensures after { IfOk result (λ rest. IsAfterDocument head.now columns.now bytes.now rest.now) }
+    ensures damaged { IfErr result (λ fault. fault ≡ Damaged → IsNoDocument head.now columns.now bytes.now) }
 {
     let rows = after(bytes, head)?;
     let closing = read_rows(alloc, rows, columns, width, read)?;
@@ -130,6 +140,7 @@ pub(crate) fn read_documents<'a>(
     requires places { HavePlaces width columns.now }
     ensures rows { IfOk result (λ read. (tables : List (List ReadRow)) × (read.items ≡ joined tables)
         × Each (Each (IsRead width columns.now)) tables × (bytes.now ≡ flat_map (document_text head.now) tables)) }
+    ensures damaged { IfErr result (λ fault. fault ≡ Damaged → AreNoDocuments head.now columns.now bytes.now) }
 {
     let mut read = Vec::new(alloc);
     let mut rest = bytes;

@@ -1,13 +1,15 @@
 //! The results of parts, merged.
-ghost use Rattle.std.specs.Prelude.{◌≡◌, ◌∷◌, ◌++◌, ℕ, List, flat_map, true, IfOk, OnOk};
+ghost use Rattle.std.specs.Prelude.{◌≡◌, ◌∷◌, ◌++◌, ℕ, List, flat_map, true, IfErr, IfOk, OnOk};
 ghost use Rattle.algebra_model.specs.Renaming.{Each};
 ghost use Rattle.algebra_model.specs.RowOrder.{cells_cmp};
 ghost use Rattle.algebra_model.specs.Sorted.{slice, sorted_list};
 ghost use Rattle.result_json.specs.Results.{separated};
 ghost use Rattle.result_json.specs.Texts.{head_text};
 ghost use Rattle.row_merge.specs.Merged.{Row, kept};
-ghost use Rattle.result_merge.specs.Merging.{IsMerged};
+ghost use Rattle.result_merge.specs.Absent.{AreNoResults};
+ghost use Rattle.result_merge.specs.Merging.{AreResults, IsMerged};
 ghost use Rattle.result_merge.specs.Reading.{HasText, ReadRow, document_text, rows_of, texts_of};
+ghost use Rattle.result_merge.specs.declared.fault.MergeFault.TheVariants.{Damaged};
 
 use crate::columns::begun_columns;
 use crate::documents::{read_documents, read_head};
@@ -109,6 +111,7 @@ fn merge_rows(
 ) -> Result<Vec<u8>, MergeFault>
     requires head { head.now ≡ head_text names.now }
     ensures merged { IfOk result (λ out. IsMerged distinct offset limit input.now out.items) }
+    ensures damaged { IfErr result (λ fault. fault ≡ Damaged → AreNoResults names.now input.now) }
 {
     let columns = begun_columns(alloc, names)?;
     let mut rows = read_documents(alloc, input, head, &columns, names.len())?;
@@ -121,7 +124,7 @@ fn merge_rows(
 /// are to be distinct, and of these the part that OFFSET and LIMIT leave.
 ///
 /// # Errors
-/// - `Damaged` if the input is not results that `spq select` prints for the same variables, or there is none.
+/// - `Damaged` if the input is not one or more results that `spq select` prints for the same variables, one after the other.
 /// - `Memory` if an allocation fails.
 pub fn merge(
     alloc: Global,
@@ -131,6 +134,7 @@ pub fn merge(
     limit: Option<u64>,
 ) -> Result<Vec<u8>, MergeFault>
     ensures merged { IfOk result (λ out. IsMerged distinct offset limit input.now out.items) }
+    ensures damaged { IfErr result (λ fault. fault ≡ Damaged → AreResults input.now → ⊥) }
 {
     let (names, rest) = read_head(alloc, input)?;
     let (head, _rows) = split_before(input, rest);

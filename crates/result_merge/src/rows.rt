@@ -1,9 +1,11 @@
 //! Rows, as `spq select` prints them (SPARQL 1.1 Query Results JSON Format, section 3.2.1).
-ghost use Rattle.std.specs.Prelude.{◌≡◌, ◌<◌, ◌||◌, ◌++◌, codes, is_some, length, set, IfOk, IfSome};
+ghost use Rattle.std.specs.Prelude.{◌≡◌, ◌<◌, ◌||◌, ◌++◌, ℕ, List, codes, is_some, length, set, IfErr, IfNone, IfOk, MatchOption};
 ghost use Rattle.result_json.specs.Texts.{begun_member, comma_texts};
 ghost use Rattle.algebra_model.specs.Renaming.{Each};
+ghost use Rattle.result_merge.specs.Absent.{IsNoRow, IsNoTerm};
 ghost use Rattle.result_merge.specs.Reading.{HavePlaces, IsRead, comma, text_of};
 ghost use Rattle.result_merge.specs.Tags.{HasTagType};
+ghost use Rattle.result_merge.specs.declared.fault.MergeFault.TheVariants.{Damaged};
 
 use crate::fault::MergeFault;
 use crate::strings::{after, split_before, stripped};
@@ -19,7 +21,8 @@ pub(crate) type Column = (Vec<u8>, usize);
 
 /// Splits off a comma, unless this is the first element.
 pub(crate) fn after_comma(bytes: &[u8], later: bool) -> Option<&[u8]>
-    ensures parts { IfSome result (λ rest. bytes.now ≡ comma later ++ rest.now) }
+    ensures parts { MatchOption result ((rest : List ℕ) → bytes.now ≡ comma later ++ rest → ⊥)
+        (λ rest. bytes.now ≡ comma later ++ rest.now) }
 {
     if later {
         stripped(bytes, b",")
@@ -30,7 +33,8 @@ pub(crate) fn after_comma(bytes: &[u8], later: bool) -> Option<&[u8]>
 
 /// Splits off the beginning of a member.
 fn member_start<'a>(bytes: &'a [u8], later: bool, prefix: &[u8]) -> Option<&'a [u8]>
-    ensures parts { IfSome result (λ rest. bytes.now ≡ comma later ++ (prefix.now ++ rest.now)) }
+    ensures parts { MatchOption result ((rest : List ℕ) → bytes.now ≡ comma later ++ (prefix.now ++ rest) → ⊥)
+        (λ rest. bytes.now ≡ comma later ++ (prefix.now ++ rest.now)) }
 {
     match after_comma(bytes, later) {
         Some(rest) => stripped(rest, prefix),
@@ -48,6 +52,10 @@ fn read_member<'a>(
     ensures parts { IfOk result
         (λ r. bytes.now ≡ comma_texts later (begun_member prefix.now r.0) ++ r.1.now) }
     ensures tagged { IfOk result (λ r. HasTagType r.0) }
+    ensures none { IfOk result (λ r. IfNone r.0
+        ((rest : List ℕ) → bytes.now ≡ comma later ++ (prefix.now ++ rest) → ⊥)) }
+    ensures damaged { IfErr result (λ fault. fault ≡ Damaged
+        → (value : List ℕ) × (bytes.now ≡ comma later ++ (prefix.now ++ value)) × IsNoTerm value) }
 {
     match member_start(bytes, later, prefix) {
         Some(value) => {
@@ -96,6 +104,7 @@ fn read_cells<'a>(
     ensures width { IfOk result (λ r. length r.0.items ≡ width) }
     ensures tagged { IfOk result (λ r. Each HasTagType r.0.items) }
     ensures parts { IfOk result (λ r. bytes.now ≡ text_of columns.now r.0.items ++ r.1.now) }
+    ensures damaged { IfErr result (λ fault. fault ≡ Damaged → IsNoRow columns.now bytes.now) }
 {
     let mut cells = unbound(alloc, width)?;
     let mut rest = after(bytes, b"{")?;
@@ -124,6 +133,7 @@ pub(crate) fn read_row<'a>(
     requires places { HavePlaces width columns.now }
     ensures row { IfOk result (λ r. IsRead width columns.now r.0) }
     ensures parts { IfOk result (λ r. bytes.now ≡ r.0.1.now ++ r.1.now) }
+    ensures damaged { IfErr result (λ fault. fault ≡ Damaged → IsNoRow columns.now bytes.now) }
 {
     let (cells, end) = read_cells(alloc, bytes, columns, width)?;
     let (text, rest) = split_before(bytes, end);

@@ -1,7 +1,6 @@
 use Rattle.std.proofs.lemmas.Bool.Decides.{Decides-eqb}
 use Rattle.std.proofs.lemmas.Slice.Eq.{strip_prefix_is}
-use Rattle.result_merge.proofs.ReadSteps.{some_rest}
 use Rattle.result_merge.proofs.strings.stripped.Goals as goal
 
 pub returns : goal.returns
-returns c = record { parts = some_rest c.strip_prefix.result c.args.bytes.now c.args.prefix.now (strip_prefix_is Decides-eqb c.args.bytes.now c.args.prefix.now c.strip_prefix.result c.strip_prefix.ensures.cases) }
+returns c = record { parts = strip_prefix_is Decides-eqb c.args.bytes.now c.args.prefix.now c.strip_prefix.result c.strip_prefix.ensures.cases }
