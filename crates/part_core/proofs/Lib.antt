@@ -1,1 +1,2 @@
 pub mod NeededLaws
+pub mod FaultSteps

@@ -1,5 +1,5 @@
 -- Why `plan` has no plan for what it reads, and `needed` no query (choices of this project).
-use Rattle.std.specs.Prelude.{◌≡◌, ◌⊎◌, ℕ, List, ◌++◌, Bool, true, false, length, IsUtf8}
+use Rattle.std.specs.Prelude.{◌≡◌, ◌⊎◌, ℕ, List, ◌++◌, length, IsUtf8}
 use Rattle.std.specs.Str.{chars}
 use Rattle.sparql_read.specs.Rejection.{IsRejectedBy}
 use Rattle.sparql_read.specs.declared.fault.QueryFault.{QueryFault}
@@ -19,14 +19,6 @@ fault_of reason.Condition = fault.Split
 fault_of reason.Sum = fault.Sum
 fault_of reason.Offset = fault.Offset
 fault_of reason.Memory = fault.Memory
-
--- the fault says something of a query
-abbrev pub is_of_query : PartFault → Bool
-is_of_query fault.Query = true
-is_of_query fault.Split = true
-is_of_query fault.Sum = true
-is_of_query fault.Offset = true
-is_of_query _ = false
 
 -- The text is not UTF-8, or it has no plan for this reason.
 abbrev pub IsUnplanned : Split → List ℕ → PartFault → Type 0

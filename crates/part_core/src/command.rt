@@ -1,8 +1,10 @@
 //! The commands of the program, and how the words of a command line name them.
-ghost use Rattle.std.specs.Prelude.{◌≡◌, ◌<◌, IfOk};
+ghost use Rattle.std.specs.Prelude.{◌≡◌, ℕ, Bool, Option, [], ◌∷◌, codes, get_or, map, string_bytes, IfNone, IfSome};
+ghost use Rattle.part_core.specs.declared.command.Command.{Command};
 ghost use Rattle.part_core.specs.Output.{HasPartitions};
+ghost use Rattle.query_split.specs.declared.split.Split.{Split};
+ghost use Rattle.part_core.specs.Words.{ArePartitions, AreWordsOf, IsCommandLine, IsLimit, IsNumber, rows_word, split_word};
 
-use crate::fault::PartFault;
 use cluster_parts::QuadKey;
 use query_split::Split;
 
@@ -51,117 +53,166 @@ pub enum Command {
 }
 
 /// Returns a word of a command line, or an empty text if there are fewer words.
-fn word_at(words: &[String], at: usize) -> &str {
+fn word_at(words: &[String], at: usize) -> &str
+    ensures value { result.now ≡ get_or (map string_bytes words.now) at [] }
+{
     match words.get(at) {
         Some(word) => word.as_str(),
         None => "",
     }
 }
 
-/// Reads a number of partitions.
-fn partitions_of(word: &str) -> Result<u64, PartFault>
-    ensures some { IfOk result (λ n. 0 < n) }
-{
-    match word.parse::<u64>() {
-        Ok(n) if 0 < n && n <= MOST_PARTITIONS => Ok(n),
-        _ => Err(PartFault::Line),
-    }
-}
-
-/// Returns the command of a word that stands alone.
-fn command_of(word: &str) -> Result<Command, PartFault>
-    ensures partitions { IfOk result HasPartitions }
-{
-    match word {
-        "count" => Ok(Command::Count),
-        "repeated" => Ok(Command::Repeated),
-        "first" => Ok(Command::First),
-        "keep" => Ok(Command::Keep),
-        "unseal" => Ok(Command::Unseal),
-        _ => Err(PartFault::Line),
-    }
-}
-
-/// Returns the command `split` of a word and a number of partitions.
-fn split_of(word: &str, partitions: &str) -> Result<Command, PartFault>
-    ensures partitions { IfOk result HasPartitions }
-{
-    match word {
-        "check" => Ok(Command::SplitCheck(partitions_of(partitions)?)),
-        "terms" => Ok(Command::SplitTerms(partitions_of(partitions)?)),
-        "subject" => Ok(Command::SplitQuads(QuadKey::Subject, partitions_of(partitions)?)),
-        "graph" => Ok(Command::SplitQuads(QuadKey::Graph, partitions_of(partitions)?)),
-        _ => Err(PartFault::Line),
-    }
-}
-
-/// Returns the command `plan` of the name of a split.
-fn plan_of(split: &str) -> Result<Command, PartFault>
-    ensures partitions { IfOk result HasPartitions }
-{
-    match split {
-        "lines" => Ok(Command::Plan(Split::Lines)),
-        "subject" => Ok(Command::Plan(Split::Subject)),
-        "graph" => Ok(Command::Plan(Split::Graph)),
-        "graph-with-default" => Ok(Command::Plan(Split::GraphWithDefault)),
-        _ => Err(PartFault::Line),
-    }
-}
-
 /// Reads a number of rows or bytes.
-fn number_of(word: &str) -> Result<u64, PartFault> {
-    match word.parse::<u64>() {
-        Ok(n) => Ok(n),
-        Err(_no_number) => Err(PartFault::Line),
+fn number_of(word: &str) -> Option<u64>
+    ensures number { IfSome result (IsNumber word.now) }
+    ensures none { IfNone result ((n : ℕ) → IsNumber word.now n → ⊥) }
+{
+    word.parse::<u64>().ok()
+}
+
+/// Reads a number of partitions.
+fn partitions_of(word: &str) -> Option<u64>
+    ensures number { IfSome result (ArePartitions word.now) }
+    ensures none { IfNone result ((n : ℕ) → ArePartitions word.now n → ⊥) }
+{
+    match number_of(word) {
+        Some(n) if 0 < n && n <= MOST_PARTITIONS => Some(n),
+        _ => None,
     }
 }
 
 /// Reads the largest number of rows, or `none`.
-fn limit_of(word: &str) -> Result<Option<u64>, PartFault> {
+fn limit_of(word: &str) -> Option<Option<u64>>
+    ensures limit { IfSome result (IsLimit word.now) }
+    ensures none { IfNone result ((limit : Option ℕ) → IsLimit word.now limit → ⊥) }
+{
     match word {
-        "none" => Ok(None),
-        _ => Ok(Some(number_of(word)?)),
+        "none" => Some(None),
+        _ => Some(Some(number_of(word)?)),
     }
 }
 
 /// Reads whether each row is listed once.
-fn distinct_of(word: &str) -> Result<bool, PartFault> {
+fn distinct_of(word: &str) -> Option<bool>
+    ensures word { IfSome result (λ distinct. word.now ≡ rows_word distinct) }
+    ensures none { IfNone result ((distinct : Bool) → word.now ≡ rows_word distinct → ⊥) }
+{
     match word {
-        "all" => Ok(false),
-        "distinct" => Ok(true),
-        _ => Err(PartFault::Line),
+        "all" => Some(false),
+        "distinct" => Some(true),
+        _ => None,
+    }
+}
+
+/// Returns the command of a word that stands alone.
+fn single_command(word: &str) -> Option<Command>
+    ensures words { IfSome result (AreWordsOf (word.now ∷ [])) }
+    ensures none { IfNone result ((command : Command) → AreWordsOf (word.now ∷ []) command → ⊥) }
+{
+    match word {
+        "count" => Some(Command::Count),
+        "repeated" => Some(Command::Repeated),
+        "first" => Some(Command::First),
+        "keep" => Some(Command::Keep),
+        "unseal" => Some(Command::Unseal),
+        _ => None,
+    }
+}
+
+/// Returns the command `plan` of the name of a split.
+fn plan_of(split: &str) -> Option<Command>
+    ensures words { IfSome result (AreWordsOf (codes "plan" ∷ split.now ∷ [])) }
+    ensures none { IfNone result ((named : Split) → split.now ≡ split_word named → ⊥) }
+{
+    match split {
+        "lines" => Some(Command::Plan(Split::Lines)),
+        "subject" => Some(Command::Plan(Split::Subject)),
+        "graph" => Some(Command::Plan(Split::Graph)),
+        "graph-with-default" => Some(Command::Plan(Split::GraphWithDefault)),
+        _ => None,
+    }
+}
+
+/// Returns the command of a word and another one.
+fn command_with_one(name: &str, word: &str) -> Option<Command>
+    ensures words { IfSome result (AreWordsOf (name.now ∷ word.now ∷ [])) }
+    ensures none { IfNone result ((command : Command) → AreWordsOf (name.now ∷ word.now ∷ []) command → ⊥) }
+{
+    match name {
+        "again" => Some(Command::Again(partitions_of(word)?)),
+        "needed" => Some(Command::Needed(number_of(word)?)),
+        "plan" => plan_of(word),
+        _ => None,
+    }
+}
+
+/// Returns the command `split` of a word and a number of partitions.
+fn split_of(word: &str, partitions: &str) -> Option<Command>
+    ensures words { IfSome result (AreWordsOf (codes "split" ∷ word.now ∷ partitions.now ∷ [])) }
+    ensures none { IfNone result ((command : Command) → AreWordsOf (codes "split" ∷ word.now ∷ partitions.now ∷ []) command → ⊥) }
+{
+    match word {
+        "check" => Some(Command::SplitCheck(partitions_of(partitions)?)),
+        "terms" => Some(Command::SplitTerms(partitions_of(partitions)?)),
+        "subject" => Some(Command::SplitQuads(QuadKey::Subject, partitions_of(partitions)?)),
+        "graph" => Some(Command::SplitQuads(QuadKey::Graph, partitions_of(partitions)?)),
+        _ => None,
+    }
+}
+
+/// Returns the command of a word and two others.
+fn command_with_two(name: &str, word: &str, partitions: &str) -> Option<Command>
+    ensures words { IfSome result (AreWordsOf (name.now ∷ word.now ∷ partitions.now ∷ [])) }
+    ensures none { IfNone result ((command : Command) → AreWordsOf (name.now ∷ word.now ∷ partitions.now ∷ []) command → ⊥) }
+{
+    match name {
+        "split" => split_of(word, partitions),
+        _ => None,
     }
 }
 
 /// Returns the command `merge` of its three words.
-fn merge_of(rows: &str, offset: &str, limit: &str) -> Result<Command, PartFault>
-    ensures partitions { IfOk result HasPartitions }
+fn merge_of(rows: &str, offset: &str, limit: &str) -> Option<Command>
+    ensures words { IfSome result (AreWordsOf (codes "merge" ∷ rows.now ∷ offset.now ∷ limit.now ∷ [])) }
+    ensures none { IfNone result ((command : Command)
+        → AreWordsOf (codes "merge" ∷ rows.now ∷ offset.now ∷ limit.now ∷ []) command → ⊥) }
 {
     let distinct = distinct_of(rows)?;
     let offset = number_of(offset)?;
     let limit = limit_of(limit)?;
-    Ok(Command::Merge(Merging {
+    Some(Command::Merge(Merging {
         distinct,
         offset,
         limit,
     }))
 }
 
-/// Reads the words of a command line, of which the first is the program's name.
+/// Returns the command of a word and three others.
+fn command_with_three(name: &str, rows: &str, offset: &str, limit: &str) -> Option<Command>
+    ensures words { IfSome result (AreWordsOf (name.now ∷ rows.now ∷ offset.now ∷ limit.now ∷ [])) }
+    ensures none { IfNone result ((command : Command)
+        → AreWordsOf (name.now ∷ rows.now ∷ offset.now ∷ limit.now ∷ []) command → ⊥) }
+{
+    match name {
+        "merge" => merge_of(rows, offset, limit),
+        _ => None,
+    }
+}
+
+/// Reads the words of a command line, of which the first is the program's name (`IsCommandLine`).
 ///
-/// # Errors
-/// `Line` if they are not a command, or if a number of partitions is not from 1 to 65,536.
-pub fn read_command(words: &[String]) -> Result<Command, PartFault>
-    ensures partitions { IfOk result HasPartitions }
+/// It returns None if they are those of no command. A number of partitions is from 1 to 65,536.
+pub fn read_command(words: &[String]) -> Option<Command>
+    ensures words { IfSome result (IsCommandLine (map string_bytes words.now)) }
+    ensures partitions { IfSome result HasPartitions }
+    ensures none { IfNone result ((command : Command) → IsCommandLine (map string_bytes words.now) command → ⊥) }
 {
     let (first, second, third) = (word_at(words, 1), word_at(words, 2), word_at(words, 3));
     match words.len() {
-        2 => command_of(first),
-        3 if first == "again" => Ok(Command::Again(partitions_of(second)?)),
-        3 if first == "needed" => Ok(Command::Needed(number_of(second)?)),
-        3 if first == "plan" => plan_of(second),
-        4 if first == "split" => split_of(second, third),
-        5 if first == "merge" => merge_of(second, third, word_at(words, 4)),
-        _ => Err(PartFault::Line),
+        2 => single_command(first),
+        3 => command_with_one(first, second),
+        4 => command_with_two(first, second, third),
+        5 => command_with_three(first, second, third, word_at(words, 4)),
+        _ => None,
     }
 }

@@ -1,11 +1,9 @@
 //! The output of a command for its input.
-ghost use Rattle.std.specs.Prelude.{◌≡◌, ◌<◌, ◌++◌, ℕ, codes, decimal, true, IfErr, IfOk, OnOk};
-ghost use Rattle.nquads_core.specs.Lines.{lines};
-ghost use Rattle.nquads_core.specs.Pieces.{IsFirstMalformed};
-ghost use Rattle.part_core.specs.Output.{HasPartitions, IsAgain, IsBadBlock, IsBadInput, IsCounted, IsFirstOf, IsKeptOf, IsOutput, IsRepeatedIn, IsPlanned, IsQuadSplit, IsSplit, IsTermSplit, IsUnsealed, limit_word, merge_line};
-ghost use Rattle.part_core.specs.Refused.{IsRefusedInput, IsUnplanned, is_of_query};
+ghost use Rattle.std.specs.Prelude.{◌≡◌, ◌<◌, ◌++◌, codes, decimal, IfErr, IfOk, OnOk};
+ghost use Rattle.part_core.specs.Faults.{IsFault};
+ghost use Rattle.part_core.specs.Output.{HasPartitions, IsAgain, IsCounted, IsFirstOf, IsKeptOf, IsOutput, IsRepeatedIn, IsPlanned, IsQuadSplit, IsSplit, IsTermSplit, IsUnsealed, limit_word, merge_line};
+ghost use Rattle.part_core.specs.declared.command.Command.TheVariants.{Again, Count, First, Keep, Merge, Plan, Repeated, SplitCheck, SplitQuads, SplitTerms, Unseal};
 ghost use Rattle.result_merge.specs.Merging.{IsMerged};
-ghost use Rattle.part_core.specs.declared.fault.PartFault.TheVariants.{BadLine};
 
 use crate::command::{Command, Merging};
 use crate::fault::PartFault;
@@ -34,8 +32,7 @@ fn number_line(alloc: Global, n: u64) -> Result<Vec<u8>, AllocError>
 /// Composes the output of `count`.
 fn counted(alloc: Global, state: RandomState, input: &[u8]) -> Result<Vec<u8>, PartFault>
     ensures output { IfOk result (λ output. IsCounted input.now output.items) }
-    ensures no_line { IfErr result (λ fault. (k : ℕ) → fault ≡ BadLine k → ⊥) }
-    ensures no_query { IfErr result (λ fault. is_of_query fault ≡ true → ⊥) }
+    ensures fault { IfErr result (IsFault Count input.now) }
 {
     let count = match count_lines(alloc, state, input) {
         Ok(count) => count,
@@ -50,8 +47,7 @@ fn counted(alloc: Global, state: RandomState, input: &[u8]) -> Result<Vec<u8>, P
 /// Composes the output of `repeated`.
 fn repeated(alloc: Global, state: RandomState, input: &[u8]) -> Result<Vec<u8>, PartFault>
     ensures output { IfOk result (λ output. IsRepeatedIn input.now output.items) }
-    ensures no_line { IfErr result (λ fault. (k : ℕ) → fault ≡ BadLine k → ⊥) }
-    ensures no_query { IfErr result (λ fault. is_of_query fault ≡ true → ⊥) }
+    ensures fault { IfErr result (IsFault Repeated input.now) }
 {
     match repeated_hashes(alloc, state, input) {
         Ok(out) => Ok(out),
@@ -68,8 +64,7 @@ fn again(
 ) -> Result<Vec<u8>, PartFault>
     requires some { 0 < partitions }
     ensures output { IfOk result (λ output. IsAgain partitions input.now output.items) }
-    ensures bad_line { IfErr result (λ fault. (k : ℕ) → fault ≡ BadLine k → IsBadBlock partitions input.now k) }
-    ensures no_query { IfErr result (λ fault. is_of_query fault ≡ true → ⊥) }
+    ensures fault { IfErr result (IsFault (Again partitions) input.now) }
 {
     let (hashes, block) = match first_lists(alloc, input, partitions) {
         Ok(parts) => parts,
@@ -90,9 +85,7 @@ fn split(
 ) -> Result<Vec<u8>, PartFault>
     requires some { 0 < partitions }
     ensures output { IfOk result (λ output. IsSplit partitions input.now output.items) }
-    ensures bad_line { IfErr result
-        (λ fault. (k : ℕ) → fault ≡ BadLine k → IsFirstMalformed (lines input.now) k) }
-    ensures no_query { IfErr result (λ fault. is_of_query fault ≡ true → ⊥) }
+    ensures fault { IfErr result (IsFault (SplitCheck partitions) input.now) }
 {
     match split_for_check(alloc, state, input, partitions) {
         Ok(out) => Ok(out),
@@ -109,9 +102,7 @@ fn split_terms(
 ) -> Result<Vec<u8>, PartFault>
     requires some { 0 < partitions }
     ensures output { IfOk result (λ output. IsTermSplit partitions input.now output.items) }
-    ensures bad_line { IfErr result
-        (λ fault. (k : ℕ) → fault ≡ BadLine k → IsFirstMalformed (lines input.now) k) }
-    ensures no_query { IfErr result (λ fault. is_of_query fault ≡ true → ⊥) }
+    ensures fault { IfErr result (IsFault (SplitTerms partitions) input.now) }
 {
     match split_for_terms(alloc, state, input, partitions) {
         Ok(out) => Ok(out),
@@ -129,9 +120,7 @@ fn split_by_key(
 ) -> Result<Vec<u8>, PartFault>
     requires some { 0 < partitions }
     ensures output { IfOk result (λ output. IsQuadSplit key.now partitions input.now output.items) }
-    ensures bad_line { IfErr result
-        (λ fault. (k : ℕ) → fault ≡ BadLine k → IsFirstMalformed (lines input.now) k) }
-    ensures no_query { IfErr result (λ fault. is_of_query fault ≡ true → ⊥) }
+    ensures fault { IfErr result (IsFault (SplitQuads key.now partitions) input.now) }
 {
     match split_quads(alloc, state, input, key, partitions) {
         Ok(out) => Ok(out),
@@ -142,8 +131,7 @@ fn split_by_key(
 /// Composes the output of `unseal`.
 fn unsealed_text(alloc: Global, input: &[u8]) -> Result<Vec<u8>, PartFault>
     ensures output { IfOk result (λ output. IsUnsealed input.now output.items) }
-    ensures no_line { IfErr result (λ fault. (k : ℕ) → fault ≡ BadLine k → ⊥) }
-    ensures no_query { IfErr result (λ fault. is_of_query fault ≡ true → ⊥) }
+    ensures fault { IfErr result (IsFault Unseal input.now) }
 {
     match join_sealed(alloc, input) {
         Ok(joined) => Ok(joined),
@@ -154,8 +142,7 @@ fn unsealed_text(alloc: Global, input: &[u8]) -> Result<Vec<u8>, PartFault>
 /// Composes the output of `first`.
 fn firsts(alloc: Global, state: RandomState, input: &[u8]) -> Result<Vec<u8>, PartFault>
     ensures output { IfOk result (λ output. IsFirstOf input.now output.items) }
-    ensures no_line { IfErr result (λ fault. (k : ℕ) → fault ≡ BadLine k → ⊥) }
-    ensures no_query { IfErr result (λ fault. is_of_query fault ≡ true → ⊥) }
+    ensures fault { IfErr result (IsFault First input.now) }
 {
     match first_terms(alloc, state, input) {
         Ok(out) => Ok(out),
@@ -166,8 +153,7 @@ fn firsts(alloc: Global, state: RandomState, input: &[u8]) -> Result<Vec<u8>, Pa
 /// Composes the output of `keep`.
 fn kept(alloc: Global, input: &[u8]) -> Result<Vec<u8>, PartFault>
     ensures output { IfOk result (λ output. IsKeptOf input.now output.items) }
-    ensures no_line { IfErr result (λ fault. (k : ℕ) → fault ≡ BadLine k → ⊥) }
-    ensures no_query { IfErr result (λ fault. is_of_query fault ≡ true → ⊥) }
+    ensures fault { IfErr result (IsFault Keep input.now) }
 {
     match keep_terms(alloc, input) {
         Ok(out) => Ok(out),
@@ -232,8 +218,7 @@ fn plan_text(alloc: Global, plan: &PartsPlan) -> Result<Vec<u8>, AllocError>
 /// Composes the output of `plan`.
 fn planned(alloc: Global, input: &[u8], split: &Split) -> Result<Vec<u8>, PartFault>
     ensures output { IfOk result (λ output. IsPlanned split.now input.now output.items) }
-    ensures no_line { IfErr result (λ fault. (k : ℕ) → fault ≡ BadLine k → ⊥) }
-    ensures refused { IfErr result (λ fault. is_of_query fault ≡ true → IsUnplanned split.now input.now fault) }
+    ensures fault { IfErr result (IsFault (Plan split.now) input.now) }
 {
     let Ok(text) = str::from_utf8(input) else {
         return Err(PartFault::Query);
@@ -251,8 +236,7 @@ fn planned(alloc: Global, input: &[u8], split: &Split) -> Result<Vec<u8>, PartFa
 fn merged(alloc: Global, input: &[u8], merging: &Merging) -> Result<Vec<u8>, PartFault>
     ensures output { IfOk result (λ output.
         IsMerged merging.now.distinct merging.now.offset merging.now.limit input.now output.items) }
-    ensures no_line { IfErr result (λ fault. (k : ℕ) → fault ≡ BadLine k → ⊥) }
-    ensures no_query { IfErr result (λ fault. is_of_query fault ≡ true → ⊥) }
+    ensures fault { IfErr result (IsFault (Merge merging.now) input.now) }
 {
     match merge(
         alloc,
@@ -273,8 +257,9 @@ fn merged(alloc: Global, input: &[u8], merging: &Merging) -> Result<Vec<u8>, Par
 ///
 /// # Errors
 /// - `BadLine(k)` if line k of the block, counted from 0, is the first that is malformed.
-/// - `Version` if another version of the program wrote the input.
-/// - `Damaged` if the input was damaged, or does not fit together.
+/// - `Version` if the input is not what the command reads (`IsWhole`), and what follows some sealed texts does not begin with the
+///   head of this version.
+/// - `Damaged` if the input is not what the command reads.
 /// - `Query` if a rule rejects the query of `plan` or `needed`, or it is not UTF-8.
 /// - `Split` if the query of `plan` does not meet the condition of the split.
 /// - `Sum` if the sum of its OFFSET and LIMIT is above the largest number.
@@ -288,10 +273,7 @@ pub fn compose(
 ) -> Result<Vec<u8>, PartFault>
     requires partitions { HasPartitions command.now }
     ensures output { IfOk result (λ output. IsOutput command.now input.now output.items) }
-    ensures bad_line { IfErr result
-        (λ fault. (k : ℕ) → fault ≡ BadLine k → IsBadInput command.now input.now k) }
-    ensures refused { IfErr result
-        (λ fault. is_of_query fault ≡ true → IsRefusedInput command.now input.now fault) }
+    ensures fault { IfErr result (IsFault command.now input.now) }
 {
     match command {
         Command::SplitCheck(partitions) => split(alloc, state, input, *partitions),

@@ -1,11 +1,10 @@
 //! Why a command was not done.
-ghost use Rattle.std.specs.Prelude.{◌≡◌, ℕ, true};
-ghost use Rattle.nquads_core.specs.declared.fault.PieceFault.TheVariants as piece;
-ghost use Rattle.part_core.specs.Refused.{fault_of, is_of_query};
-ghost use Rattle.part_core.specs.declared.fault.PartFault.TheVariants.{BadLine};
+ghost use Rattle.std.specs.Prelude.{◌≡◌};
+ghost use Rattle.part_core.specs.Faults.{of_merge, of_piece, of_read, of_seal};
+ghost use Rattle.part_core.specs.Refused.{fault_of};
 
 use cluster_parts::SealFault;
-use nquads_core::PieceFault;
+use nquads_core::{PieceFault, ReadFault};
 use query_plan::PlanFault;
 use result_merge::MergeFault;
 
@@ -39,8 +38,7 @@ pub enum PartFault {
 impl PartFault {
     /// Returns the fault of a block or a document, under the same name.
     pub(crate) fn of_piece(fault: PieceFault) -> PartFault
-        ensures bad_line { (k : ℕ) → result ≡ BadLine k → fault ≡ piece.BadLine k }
-        ensures no_query { is_of_query result ≡ true → ⊥ }
+        ensures value { result ≡ of_piece fault }
     {
         match fault {
             PieceFault::BadLine(line) => PartFault::BadLine(line),
@@ -50,8 +48,7 @@ impl PartFault {
 
     /// Returns the fault of a sealed text, under the same name.
     pub(crate) fn of_seal(fault: SealFault) -> PartFault
-        ensures no_line { (k : ℕ) → result ≡ BadLine k → ⊥ }
-        ensures no_query { is_of_query result ≡ true → ⊥ }
+        ensures value { result ≡ of_seal fault }
     {
         match fault {
             SealFault::Version => PartFault::Version,
@@ -62,7 +59,6 @@ impl PartFault {
 
     /// Returns the fault of a plan. That of a condition is `Split`.
     pub(crate) fn of_plan(fault: PlanFault) -> PartFault
-        ensures no_line { (k : ℕ) → result ≡ BadLine k → ⊥ }
         ensures value { result ≡ fault_of fault }
     {
         match fault {
@@ -76,12 +72,21 @@ impl PartFault {
 
     /// Returns the fault of results that cannot be merged, under the same name.
     pub(crate) fn of_merge(fault: MergeFault) -> PartFault
-        ensures no_line { (k : ℕ) → result ≡ BadLine k → ⊥ }
-        ensures no_query { is_of_query result ≡ true → ⊥ }
+        ensures value { result ≡ of_merge fault }
     {
         match fault {
             MergeFault::Damaged => PartFault::Damaged,
             MergeFault::Memory => PartFault::Memory,
+        }
+    }
+
+    /// Returns the fault of an input that was not read to its end, under the same name.
+    pub(crate) fn of_read(fault: ReadFault) -> PartFault
+        ensures value { result ≡ of_read fault }
+    {
+        match fault {
+            ReadFault::Read => PartFault::Read,
+            ReadFault::Memory => PartFault::Memory,
         }
     }
 }

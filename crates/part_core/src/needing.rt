@@ -1,11 +1,13 @@
 //! The quads of a block that a query needs.
-ghost use Rattle.std.specs.Prelude.{◌≡◌, ℕ, true, IfErr, IfOk};
+ghost use Rattle.std.specs.Prelude.{◌≡◌, ◌⊎◌, IfErr, IfOk};
 ghost use Rattle.std.specs.Str.{chars};
 ghost use Rattle.sparql_tree.specs.QueryTree.{QueryTree, query_of};
 ghost use Rattle.sparql_read.specs.Rejection.{IsValidQuery};
-ghost use Rattle.part_core.specs.Needed.{IsBadAfter, IsNeededOf, KeepsNeeded};
-ghost use Rattle.part_core.specs.Refused.{IsNoQuery, IsNoQueryBefore, is_of_query};
-ghost use Rattle.part_core.specs.declared.fault.PartFault.TheVariants.{BadLine};
+ghost use Rattle.part_core.specs.Faults.{IsFault};
+ghost use Rattle.part_core.specs.Needed.{IsNeededOf, KeepsNeeded};
+ghost use Rattle.part_core.specs.Refused.{IsNoQuery};
+ghost use Rattle.part_core.specs.declared.command.Command.TheVariants.{Needed};
+ghost use Rattle.part_core.specs.declared.fault.PartFault.TheVariants.{Memory};
 
 use crate::fault::PartFault;
 use cluster_parts::kept_quads;
@@ -30,8 +32,7 @@ fn filter_of_query(alloc: Global, query: &Query) -> Result<QuadFilter, AllocErro
 fn filter_of_text(alloc: Global, text: &str) -> Result<QuadFilter, PartFault>
     ensures needed { IfOk result
         (λ filter. (query : QueryTree) × IsValidQuery (chars text.now) query × KeepsNeeded query filter) }
-    ensures no_line { IfErr result (λ fault. (k : ℕ) → fault ≡ BadLine k → ⊥) }
-    ensures refused { IfErr result (λ fault. is_of_query fault ≡ true → IsNoQuery text.now fault) }
+    ensures fault { IfErr result (λ fault. (fault ≡ Memory) ⊎ IsNoQuery text.now fault) }
 {
     match read_query(alloc, text) {
         Ok(query) => {
@@ -51,8 +52,7 @@ fn filter_of_text(alloc: Global, text: &str) -> Result<QuadFilter, PartFault>
 fn filter_of_bytes(alloc: Global, bytes: &[u8]) -> Result<QuadFilter, PartFault>
     ensures needed { IfOk result
         (λ filter. (query : QueryTree) × IsValidQuery (chars bytes.now) query × KeepsNeeded query filter) }
-    ensures no_line { IfErr result (λ fault. (k : ℕ) → fault ≡ BadLine k → ⊥) }
-    ensures refused { IfErr result (λ fault. is_of_query fault ≡ true → IsNoQuery bytes.now fault) }
+    ensures fault { IfErr result (λ fault. (fault ≡ Memory) ⊎ IsNoQuery bytes.now fault) }
 {
     match str::from_utf8(bytes) {
         Ok(text) => filter_of_text(alloc, text),
@@ -68,8 +68,7 @@ pub(crate) fn needed(
     count: u64,
 ) -> Result<Vec<u8>, PartFault>
     ensures output { IfOk result (λ output. IsNeededOf count input.now output.items) }
-    ensures bad_line { IfErr result (λ fault. (k : ℕ) → fault ≡ BadLine k → IsBadAfter count input.now k) }
-    ensures refused { IfErr result (λ fault. is_of_query fault ≡ true → IsNoQueryBefore count input.now fault) }
+    ensures fault { IfErr result (IsFault (Needed count) input.now) }
 {
     if count > input.len() as u64 {
         return Err(PartFault::Damaged);

@@ -49,9 +49,11 @@ fn run_words(rt: &HostRuntime) -> Result<(), PartFault> {
             Err(_) => Err(PartFault::Write),
         };
     }
-    let command = read_command(words.as_slice())?;
+    let Some(command) = read_command(words.as_slice()) else {
+        return Err(PartFault::Line);
+    };
     let Ok(state) = RandomState::new(rt) else {
-        return Err(PartFault::Read);
+        return Err(PartFault::Memory);
     };
     let mut reader = Device { inner: rt.stdin() };
     run(rt.alloc(), state, &command, &mut reader, &mut writer)

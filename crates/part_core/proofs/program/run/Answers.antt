@@ -1,31 +1,18 @@
-use Rattle.std.proofs.Common.{subst}
-use Rattle.std.specs.Io.KnownBytes.{Appends}
-use Rattle.part_core.specs.Output.{IsBadInput, IsOutput}
-use Rattle.part_core.specs.Refused.{IsRefusedInput}
+use Rattle.std.proofs.Common.{ℕ, Global, Vec, refl}
+use Rattle.part_core.proofs.FaultSteps.{read_fault, read_no_write, read_rises, read_stays}
 use Rattle.part_core.proofs.program.run.Goals as goal
 
-pub returns-clause-done : goal.returns-clause-done
-returns-clause-done g c = record {
-  input = c.in_ok-input.input.items;
-  output = c.in-Ok.output.items;
-  consumed = c.in_ok-input.ensures.bytes;
-  at_end = c.in_ok-input.ensures.at_end;
-  is_output = subst (λ i. IsOutput c.args.command.now i c.in-Ok.output.items) c.as_slice.ensures.value c.in-Ok.ensures.output;
-  written = subst (λ t. Appends (g.K.Sink.held c.args.writer.now) (g.K.Sink.held c.write_output.new.writer) t) c.as_slice-2.ensures.value c.in_ok-write_output.ensures.written;
-}
+pub returns-in-Err-clause-read : goal.returns-in-Err-clause-read
+returns-in-Err-clause-read g c = read_rises (Vec ℕ Global) _ _ c.of_read.result _ refl c.in-Err.fault c.in-Err.ensures.count c.of_read.ensures.value
 
-pub returns-in-Err-clause-bad_line : goal.returns-in-Err-clause-bad_line
-returns-in-Err-clause-bad_line g c = λ k e. record {
-  input = c.in_ok-input.input.items;
-  consumed = c.in_ok-input.ensures.bytes;
-  at_end = c.in_ok-input.ensures.at_end;
-  malformed = subst (λ i. IsBadInput c.args.command.now i k) c.as_slice.ensures.value (c.in-Err.ensures.bad_line k e);
-}
+pub returns-in-Err-clause-fault : goal.returns-in-Err-clause-fault
+returns-in-Err-clause-fault g c = rw c.of_read.ensures.value (read_fault c.args.command.now _ _ c.in-Err.fault)
 
-pub returns-in-Err-clause-refused : goal.returns-in-Err-clause-refused
-returns-in-Err-clause-refused g c = λ e. record {
-  input = c.in_ok-input.input.items;
-  consumed = c.in_ok-input.ensures.bytes;
-  at_end = c.in_ok-input.ensures.at_end;
-  refused = subst (λ i. IsRefusedInput c.args.command.now i c.in-Err.fault) c.as_slice.ensures.value (c.in-Err.ensures.refused e);
-}
+pub returns-in-Err-clause-taken : goal.returns-in-Err-clause-taken
+returns-in-Err-clause-taken g c = c.in-Err.ensures.taken
+
+pub returns-in-Err-clause-write : goal.returns-in-Err-clause-write
+returns-in-Err-clause-write g c = λ e. absurd (read_no_write c.of_read.result _ refl c.in-Err.fault c.of_read.ensures.value e)
+
+pub returns-in-Err-clause-unfailed : goal.returns-in-Err-clause-unfailed
+returns-in-Err-clause-unfailed g c = read_stays (Vec ℕ Global) _ _ c.of_read.result _ refl c.in-Err.fault c.in-Err.ensures.count c.of_read.ensures.value
