@@ -18,7 +18,8 @@ Prints tables of time and peak memory:
 The commands of a table run in rounds. Each round runs every command once, so that noise affects all of them. A table
 has the least time and the highest peak of each command. Compare ratios within a table, not seconds of different runs.
 With --baseline, each command of spq also runs with that executable, and further tables show the change.
-With --write, the figures of the measured tables replace those of results.json in a folder, and the plots are drawn there.
+With --write, the figures of the measured tables replace those of results.json in a folder, with the SHA-256 sum of the
+executable of spq, and the plots are drawn there.
 results.json is the source of each figure of the pages: tests/pages.py --write puts them there.
 Python 3 standard library only; the plots need matplotlib.
 """
@@ -169,7 +170,7 @@ def plus(result, load):
 def compare(options, folder):
     """Measures what the tables need, prints the tables and returns the report."""
     tools = peers.find_tools(folder, options.oxigraph)
-    page = Report(heading(options, tools))
+    page = Report(heading(options, tools), measure.sum_of(options.programs["spq"]))
     if "memory" in options.tables:
         place = options.folder or folder
         page.record("memory", {quads: memory.peaks(options.programs["spq"], quads, place) for quads in options.quads[-1:]})

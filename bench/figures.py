@@ -18,13 +18,25 @@ from targets import MANY, ONE, Figures, highest, without
 HERE = os.path.dirname(os.path.abspath(__file__))
 PAGES = ["README.md", "docs/COST.md", "docs/COMPARISON.md", "docs/USAGE.md", "bench/RESULTS.md", "distributed/README.md"]
 # Texts that are no measurements but parts of the design, and those of one page.
-CONSTANTS = ["64 MiB", "64 KiB", "4 MiB", "2 MiB", "4 KiB", "128 KiB", "10 MB", "8 GB", "200 milliseconds"]
-CONSTANTS_OF = {"distributed/README.md": ["30 seconds", "16 MiB", "256 MiB", "8 bytes for each quad"], "bench/RESULTS.md": ["100 kB"]}
-UNIT = r"(?:seconds?|milliseconds?|microseconds?|minutes?|hours?|min|ms|µs|[kKMGT]B|[KMGT]iB|(?:kilo|mega|giga|tera)bytes?|bytes (?:a|per|for each) \w+|times (?:as long|its size|the (?:\w+ )?size))"
-NUMBER = r"(?:\d[\d.,]*(?:(?: to | and |, | or |-)\d[\d.,]*)*|two|three|four|five|six|seven|eight|nine|ten|twenty|a hundred)"
-FIGURE = re.compile(rf"\b{NUMBER}[ -]?{UNIT}(?!\w)")
+CONSTANTS = ["64 MiB", "64 KiB", "4 MiB", "2 MiB", "4 KiB", "128 KiB", "131,072 bytes", "10 MB", "8 GB", "200 milliseconds"]
+CONSTANTS_OF = {
+    "distributed/README.md": ["30 seconds", "16 MiB", "256 MiB", "8 bytes for each quad", "a terabyte"],
+    "docs/COST.md": ["65,536 bytes", "4 bytes for each variable", "16 bytes", "32 bytes"],
+    "bench/RESULTS.md": ["100 kB", "4 bytes", "32 bytes"],
+}
+# A figure is a number with a unit, a relation such as `twice the memory`, or a share.
+NAMED = r"(?:milli|micro)?seconds?|minutes?|hours?|days?|(?:kilo|mega|giga|tera)bytes?"
+TIMES = r"times (?:faster|slower|longer|shorter|smaller|larger|as (?:long|fast|slow|much|large|small)|(?:its|the) (?:\w+ )?(?:size|time|memory))"
+WORDS = "two|three|four|five|six|seven|eight|nine|ten|eleven|twelve|fifteen|(?:twen|thir|for|fif|six|seven|eigh|nine)ty|(?:a )?(?:hundred|thousand)"
+DIGITS = r"\d[\d.,]*(?:(?: to | and |, | or |-)\d[\d.,]*)*"
+FIGURE = re.compile(rf"\b(?:{DIGITS}|{WORDS})[ -]*(?:{NAMED}|bytes(?: each| (?:a|per|for each) \w+)?|{TIMES}|percent)(?!\w)"
+                    rf"|\b{DIGITS}[ -]*(?:min|ms|µs|s|h|[kKMGT]B|[KMGT]iB|%)(?!\w)"
+                    rf"|\b(?:half +)?(?:an?|one) +(?!seconds? [a-z])(?:{NAMED})(?!\w)"
+                    r"|\b(?:twice|half) +(?:of )?(?:as (?:long|fast|slow|much|large|small)|(?:the|its) (?:\w+ )?(?:size|time|memory))\b", re.I)
 PHRASE = re.compile(r"(<!-- figure: ([\w-]+) -->).*?(<!-- end -->)", re.S)
-HIDDEN = re.compile(r"<!-- generated: .*?<!-- end of the generated part -->|<!-- figure: .*?<!-- end -->|^ *```.*?^ *```|`[^`\n]*`", re.S | re.M)
+HIDDEN = re.compile(r"<!-- generated: .*?<!-- end of the generated part -->|<!-- figure: .*?<!-- end -->|\]\([^)\s]*\)|`[^`\n]*`", re.S)
+# A block of commands and outputs: of these only the comments say how long something takes.
+BLOCK, COMMENT = re.compile(r"^ *```.*?^ *```", re.S | re.M), re.compile(r"(?:^|(?<=\s))#\s.*")
 LARGEST = "path of four"
 OTHERS = {"serdi": SERDI, "serd": "serd's library, parse", "rapper": "rapper, parse", "riot": "riot, parse", "Oxigraph": "Oxigraph, load into its store"}
 # Gigabytes of memory (10^9 bytes) for which the table says how many statements fit. A tenth is left to the system.
@@ -98,9 +110,10 @@ def megabytes(quads):
 
 def readme_speed():
     """The table of README.md, the quickest first, and how spq compares with serdi on other shapes of document."""
+    joined = answers()[LARGEST][f"spq, {report.workers(4)}"]
     rows = [
         ("`spq check`, 4 workers: parse, number the terms, sort", loads().get(MANY)),
-        (f"`spq select`, 4 workers: index, a join of {answers()[LARGEST]['spq, 4 workers'].rows:,} rows", answers()[LARGEST]["spq, 4 workers"]),
+        (f"`spq select`, 4 workers: index, a join of {joined.rows:,} rows{of_another_run('queries', joined.runs)}", joined),
         ("`spq check`, 1 worker", loads().get(ONE)),
         ("serd's library: parse", loads().get(OTHERS["serd"])),
         ("serdi: parse and print", loads().get(SERDI)),
@@ -109,7 +122,7 @@ def readme_speed():
     quads, runs = largest("loading")[0], max(it.runs for it in loads().values())
     return [f"{quads:,} statements of a catalogue, {megabytes(quads)}, 4 cores, best of {runs}, one run ([all](bench/RESULTS.md)):", "",
             *markdown(["", "seconds", "peak MiB"], [[text, f"{it.seconds:.2f}", report.peak(it)] for text, it in found]).splitlines(), "",
-            "Time relative to serdi on the same document, for the catalogue and for the slowest other [shapes](bench/RESULTS.md#shapes-of-document):", "",
+            f"Time relative to serdi on the same document, for the catalogue and for the slowest other [shapes](bench/RESULTS.md#shapes-of-document){of_another_run('shapes')}:", "",
             *against_serdi()]
 
 
@@ -141,12 +154,29 @@ def spans(found):
     return between([it.seconds for it in found], "{:.2f}"), between([it.peak for it in found], "{:.0f}")
 
 
+def is_other_run(name):
+    """Returns whether a section is from another run than that of loading."""
+    return heading(name) != heading("loading")
+
+
+def of_another_run(name, runs=None):
+    """Returns a remark on a row or a table of a section that is from another run than that of loading, or an empty text."""
+    remark = [f"best of {runs}"] * bool(runs) + [f"another run{hedge(name)}"]
+    return f" ({', '.join(remark)})" if is_other_run(name) else ""
+
+
+def hedge(name):
+    """Returns a remark if the executable of a section is not known to be that of loading."""
+    build = results()[name].get("build")
+    return "" if build and build == results()["loading"].get("build") else ", in which spq can be an earlier build"
+
+
 def other_run(name):
     """Returns a paragraph on the run of a section, with what differs, if it is another one than that of loading."""
-    if heading(name) == heading("loading"):
+    if not is_other_run(name):
         return []
     new = [it for it in facts(heading(name)) if it not in facts(heading("loading"))]
-    return [f"From another run, in which spq can be an earlier build ({', '.join(new)}):", ""]
+    return [f"From another run{hedge(name)} ({', '.join(new)}):", ""]
 
 
 def facts(text):
@@ -167,10 +197,8 @@ def cost_memory():
 
 
 def results_targets():
-    lines = targets.table(results()).splitlines()
-    if "engines" in results() and other_run("engines"):
-        lines += ["", "The rows on Oxigraph are from [another run](#queries-compared-with-other-engines), in which spq can be an earlier build."]
-    return lines
+    return [*targets.table(results()).splitlines(), "",
+            "Each row is from the run of its table below; the peaks are from that of the [table of memory](../docs/COST.md#memory)."]
 
 
 def results_loading():
@@ -220,6 +248,7 @@ def memory_range(command):
 
 
 def minutes(name):
+    """Returns the minutes on a number of cores, a range of a fast and a slow machine, as text."""
     times = results()["proof"][name]
     words = {"2": "two", "4": "four", "8": "eight"}
     return ", ".join(f"{it} minutes on {words[n]} cores" for n, it in sorted(times.items(), key=lambda pair: -int(pair[0])))
@@ -230,6 +259,7 @@ PHRASES = {
     "select-memory": lambda: memory_range("select"),
     "check-memory": lambda: memory_range("check"),
     "install-minutes": lambda: minutes("install minutes"),
+    "hosts-minutes": lambda: f"{results()['proof']['hosts minutes']} minutes",
     "gate-minutes": lambda: f"about {results()['proof']['gate processor minutes']} processor minutes",
     "serdi-memory": lambda: report.peak(loads()[SERDI]) + " MiB",
     "rapper-memory": lambda: report.peak(loads()[OTHERS["rapper"]]) + " MiB",
@@ -242,11 +272,40 @@ def filled(page):
     return PHRASE.sub(lambda found: found[1] + PHRASES[found[2]]() + found[3], page)
 
 
+def blank(found):
+    """Returns marks in place of a text, with its line ends. No figure contains a mark."""
+    return re.sub(r"[^\n]", "`", found[0])
+
+
+def comments_of(block):
+    """Returns a block of code with marks in place of all but its comments."""
+    return "\n".join(re.sub(r".", "`", line[: len(line) - len(said)]) + said for line in block[0].split("\n") for said in ["".join(COMMENT.findall(line)[:1])])
+
+
 def faults(path, page):
-    """Returns a line for each figure of time or memory that is written by hand."""
-    text = HIDDEN.sub(lambda found: re.sub(r"[^\n]", " ", found[0]), page)
+    """Returns a line for each figure of time or memory that is written by hand. A line end in a figure counts as a blank."""
+    text = HIDDEN.sub(blank, BLOCK.sub(comments_of, page))
     found = []
-    for number, line in enumerate(text.split("\n"), 1):
-        hits = [it[0] for it in FIGURE.finditer(line) if it[0].strip() not in CONSTANTS + CONSTANTS_OF.get(path, [])]
-        found += [f"{path}:{number}: the figure '{it}' is written by hand; take it from bench/results.json (bench/figures.py)" for it in hits]
+    for hit in FIGURE.finditer(re.sub(r"(?<=[^\n])\n(?=[^\n])", " ", text)):
+        figure = " ".join(hit[0].split())
+        if figure not in CONSTANTS + CONSTANTS_OF.get(path, []):
+            line = text.count("\n", 0, hit.start()) + 1
+            found.append(f"{path}:{line}: the figure '{figure}' is written by hand; take it from bench/results.json (bench/figures.py)")
     return found
+
+
+# Texts with a figure, and texts without one: they test `faults`.
+FOUND = [
+    "4\nbytes for each variable", "more than a\n  gigabyte", "```sh\nrun    # 20 minutes\n```", "half an hour", "a gigabyte", "about an hour", "it takes a second.",
+    "12 s", "0.3s", "47 %", "2.6 times as fast", "three times faster", "twice the memory", "half of the time", "thirty seconds", "94 bytes each", "10 to 12 GB",
+]
+NOT_FOUND = [
+    "a second proved program", "several times as long", "4\n\nbytes", "| 4 |\n| seconds |", "thousands of statements", "`--wait 30 s`", "```sh\nsleep 30 s\n```",
+    "[parts](PARTS.md#what-a-terabyte-takes)", "<!-- figure: document-size -->132 MB<!-- end -->", "1,000,000 statements", "64 KiB",
+]
+
+
+def test_faults():
+    """Returns a line for each text of FOUND and NOT_FOUND that `faults` takes for the other."""
+    wrong = [it for it in FOUND if not faults("", it)] + [it for it in NOT_FOUND if faults("", it)]
+    return [f"bench/figures.py: faults() is wrong about {it!r}" for it in wrong]

@@ -8,6 +8,7 @@ Python 3 standard library only.
 import argparse
 import dataclasses
 import datetime
+import hashlib
 import itertools
 import os
 import re
@@ -74,6 +75,12 @@ def run(arguments, document, output, limit):
 def best(arguments, document, output, runs=1, limit=600):
     """Runs a command several times in a row and returns the best of each figure."""
     return least([run(arguments, document, output, limit) for _ in range(runs)])
+
+
+def sum_of(path):
+    """Returns the SHA-256 sum of a file."""
+    with open(path, "rb") as file:
+        return hashlib.sha256(file.read()).hexdigest()
 
 
 def least(measurements):

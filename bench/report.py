@@ -21,11 +21,14 @@ GROWTH = ("lower bound", "serdi", "Oxigraph", "spq check", "baseline check")
 
 
 class Report:
-    """Prints the tables of a run and keeps its figures, by section: memory, loading, shapes, queries, engines, growth."""
+    """Prints the tables of a run and keeps its figures, by section: memory, loading, shapes, queries, engines, growth.
 
-    def __init__(self, heading):
+    `build` is the SHA-256 sum of the executable of spq that is measured.
+    """
+
+    def __init__(self, heading, build):
         print(f"{heading}\n")
-        self.heading, self.megabytes, self.figures = heading, {}, {}
+        self.heading, self.build, self.megabytes, self.figures = heading, build, {}, {}
 
     def show(self, title, table):
         print(f"{title}:\n\n{table}", flush=True)
@@ -33,7 +36,7 @@ class Report:
     def record(self, section, sizes):
         """Keeps the figures of a section, by number of quads."""
         if sizes:
-            self.figures[section] = {"heading": self.heading.strip().split("\n"), "sizes": sizes}
+            self.figures[section] = {"heading": self.heading.strip().split("\n"), "build": self.build, "sizes": sizes}
 
     def write(self, folder):
         """Replaces the sections of results.json in a folder that this run measured, and draws the plots."""

@@ -166,7 +166,7 @@ def main():
     faults = api.faults() + offered.faults() + mutant_faults() + name_faults() + definition_faults() + known_faults() + theorem.faults(PART.sub("", read(theorem.PAGE)))
     faults += contracts.rewritten(read(contracts.PAGE), calls.contract_of)[1] + usage.faults() + diagram_faults() + links.faults() + size_faults()
     faults += [it for path in PAGES for it in page_faults(path)]
-    faults += [it for path in figures.PAGES for it in figures.faults(path, read(path))]
+    faults += figures.test_faults() + [it for path in figures.PAGES for it in figures.faults(path, read(path))]
     for it in faults:
         print(it)
     if faults:
