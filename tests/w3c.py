@@ -18,7 +18,8 @@ same solutions ('adapted': ORDER BY without LIMIT, an expression after SELECT, V
 REDUCED). tests/w3c-left-out.txt lists the tests that are not run, each with the reason. A report in EARL goes to
 out/w3c-earl.ttl. Exits with 1 if a test fails. --write puts the table into docs/COMPARISON.md.
 
-With --gate a machine that lacks the programs or cannot get the suites is no error: one line says so.
+With --gate a machine that lacks the programs or cannot get the suites is no error: one line says so. It is an error if
+docs/COMPARISON.md has another table.
 """
 import argparse
 import collections
@@ -227,7 +228,7 @@ def earl(outcomes):
 
 
 def put_into_page(made, is_written):
-    """Puts the table into the page, or only says if the page has another one: other editions of the suites have other numbers."""
+    """Puts the table into the page, or says if the page has another one. Returns whether it has."""
     with open(PAGE, encoding="utf-8") as file:
         page = file.read()
     new = PART.sub(lambda found: f"{found[1]}\n{made}\n\n{found[2]}", page)
@@ -235,13 +236,16 @@ def put_into_page(made, is_written):
         with open(PAGE, "w", encoding="utf-8") as file:
             file.write(new)
     elif new != page:
-        print("note: docs/COMPARISON.md has other numbers; w3c.py --write rewrites them")
+        print("docs/COMPARISON.md has other numbers; w3c.py --write rewrites them")
+    return not is_written and new != page
 
 
 def unused(left_out, outcomes):
-    """Returns a line for each entry of the two lists that names no test."""
+    """Returns a line for each entry of the two lists that names no test, or another number of tests than it says."""
     names = [it.test.name for it in outcomes]
-    wrong = [f"tests/w3c-left-out.txt: there is no test {name}" for name, _ in left_out if not fnmatch.filter(names, name)]
+    found = [(name, why, len(fnmatch.filter(names, name))) for name, why in left_out]
+    wrong = [f"tests/w3c-left-out.txt: there is no test {name}" for name, _, count in found if not count]
+    wrong += [f"tests/w3c-left-out.txt: {name} names {count} tests" for name, why, count in found if "*" in name and not why.startswith(f"{count} tests")]
     return wrong + [f"tests/w3c-notes.txt: there is no test {name}" for name in EXPECTED_NOTES if name not in names]
 
 
@@ -265,8 +269,8 @@ def run_suites(given):
             print(f"{it.outcome}: {it.test.suite}, {it.test.name}{' (adapted)' if it.is_adapted else ''}: {it.detail}".rstrip(": "))
     faults = unused(left_out, outcomes) + [it for it in outcomes if it.outcome == FAILED]
     print("\n".join([*(it for it in faults if isinstance(it, str)), table(outcomes)]))
-    put_into_page(table(outcomes), given.write)
-    return len(faults)
+    is_other_table = put_into_page(table(outcomes), given.write)
+    return len(faults) + (given.gate and is_other_table)
 
 
 def main():
