@@ -15,10 +15,3 @@ pub record IsMessage (words : Option (List ℕ)) (line : List ℕ) (at : ℕ) (b
   pub hint : List ℕ
   pub whole : bytes ≡ heading_of place reason ++ (excerpt_of line at ++ hint)
   pub known : IfSome words (λ w. place ≡ w)
-
--- a message about some place in some line
-pub record IsSomeMessage (bytes : List ℕ) : Type 0 where
-  pub words : Option (List ℕ)
-  pub line : List ℕ
-  pub at : ℕ
-  pub message : IsMessage words line at bytes

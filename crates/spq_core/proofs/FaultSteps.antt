@@ -10,7 +10,8 @@ use Rattle.row_pieces.specs.declared.fault.EvalFault.{EvalFault}
 use Rattle.row_pieces.specs.declared.fault.EvalFault.TheVariants as eval
 use Rattle.sparql_tree.specs.QueryTree.{QueryTree}
 use Rattle.sparql_read.specs.Rejection.{IsValidQuery}
-use Rattle.spq_core.specs.Faults.{IsFaultOf, IsQueryFaultOf, IsOneWorkerFault, fault_of_loading, fault_of_evaluation}
+use Rattle.spq_core.specs.Composing.{fault_of_loading, fault_of_evaluation}
+use Rattle.spq_core.specs.Faults.{IsFaultOf, IsQueryFaultOf, IsOneWorkerFault}
 use Rattle.spq_core.specs.declared.fault.Fault.{Fault}
 use Rattle.spq_core.specs.declared.fault.Fault.TheVariants.{Query, BadLine, WorkerRefused, Memory}
 

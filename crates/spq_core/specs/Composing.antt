@@ -1,4 +1,5 @@
--- What loading a document and composing an output return, and what they do to the reader. Only private clauses use these definitions.
+-- What loading a document and composing an output return, and what they do to the reader. Only private clauses and the conversions
+-- of faults use these definitions.
 use Rattle.std.specs.Prelude.{◌≡◌, ◌⊎◌, ℕ, List, Option, Result, Ok, Err, IfOk, OnErr, Vec}
 use Rattle.std.specs.Global.{Global}
 use Rattle.std.specs.Io.KnownBytes.{Consumes, IsAtEnd}
@@ -10,11 +11,15 @@ use Rattle.nquads_core.specs.Transfer.{IsReadInPart}
 use Rattle.algebra_model.specs.Algebra.{Algebra}
 use Rattle.dict_core.specs.NumQuad.{quads_at}
 use Rattle.dataset_load.specs.Store.{StoreView}
+use Rattle.dataset_load.specs.declared.fault.LoadFault.{LoadFault}
+use Rattle.dataset_load.specs.declared.fault.LoadFault.TheVariants as load
 use Rattle.dataset_load.specs.declared.reader_fault.ReaderFault.{ReaderFault}
 use Rattle.dataset_load.specs.declared.reader_fault.ReaderFault.TheVariants as reading
 pub use Rattle.dataset_load.specs.Streaming.{IsBadLineFrom, IsLoadedFrom}
 use Rattle.needed_quads.specs.Laws.{HasNeeded}
 use Rattle.result_json.specs.Results.{joined_blocks}
+use Rattle.row_pieces.specs.declared.fault.EvalFault.{EvalFault}
+use Rattle.row_pieces.specs.declared.fault.EvalFault.TheVariants as eval
 use Rattle.sparql_read.specs.declared.fault.QueryFault.{QueryFault}
 use Rattle.spq_core.specs.Output.{Request}
 use Rattle.spq_core.specs.Run.{IsAnswerable, IsBadLineOf, IsComposed, IsQueryOf}
@@ -22,6 +27,17 @@ use Rattle.spq_core.specs.declared.fault.Fault.{Fault}
 use Rattle.spq_core.specs.declared.fault.Fault.TheVariants as fault
 use Rattle.spq_run.specs.declared.fault.RunFault.{RunFault}
 use Rattle.spq_run.specs.declared.fault.RunFault.TheVariants.{Query, BadLine, WorkerRefused, Memory, Read, Write, Line}
+
+-- a fault of loading, as a fault of `answer` under the same name
+abbrev pub fault_of_loading : LoadFault → Fault
+fault_of_loading (load.BadLine n) = fault.BadLine n
+fault_of_loading load.WorkerRefused = fault.WorkerRefused
+fault_of_loading load.Memory = fault.Memory
+
+-- a fault of the evaluation, as a fault of `answer` under the same name
+abbrev pub fault_of_evaluation : EvalFault → Fault
+fault_of_evaluation eval.WorkerRefused = fault.WorkerRefused
+fault_of_evaluation eval.Memory = fault.Memory
 
 -- a fault of `answer`, under the same name
 abbrev pub run_fault_of : Fault → RunFault

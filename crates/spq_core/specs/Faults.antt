@@ -2,10 +2,6 @@
 -- the document.
 use Rattle.std.specs.Prelude.{ℕ, List, ⊤, Err}
 use Rattle.std.specs.Str.{chars}
-use Rattle.dataset_load.specs.declared.fault.LoadFault.{LoadFault}
-use Rattle.dataset_load.specs.declared.fault.LoadFault.TheVariants as load
-use Rattle.row_pieces.specs.declared.fault.EvalFault.{EvalFault}
-use Rattle.row_pieces.specs.declared.fault.EvalFault.TheVariants as eval
 use Rattle.sparql_tree.specs.QueryTree.{QueryTree}
 use Rattle.sparql_read.specs.Rejection.{IsValidQuery, IsRejectedBy}
 use Rattle.spq_core.specs.Outcome.{IsQueryResult, bad_line, query}
@@ -33,14 +29,3 @@ IsOneWorkerFault (Query f) = ⊤
 IsOneWorkerFault (BadLine n) = ⊤
 IsOneWorkerFault WorkerRefused = ⊥
 IsOneWorkerFault Memory = ⊤
-
--- a fault of loading or evaluation, under the same name
-abbrev pub fault_of_loading : LoadFault → Fault
-fault_of_loading (load.BadLine n) = BadLine n
-fault_of_loading load.WorkerRefused = WorkerRefused
-fault_of_loading load.Memory = Memory
-
--- a fault of the evaluation, under the same name
-abbrev pub fault_of_evaluation : EvalFault → Fault
-fault_of_evaluation eval.WorkerRefused = WorkerRefused
-fault_of_evaluation eval.Memory = Memory

@@ -32,7 +32,7 @@ impl From<AllocError> for Fault {
 
 impl From<LoadFault> for Fault {
     ghost use Rattle.std.specs.Prelude.{◌≡◌};
-    ghost use Rattle.spq_core.specs.Faults.{fault_of_loading};
+    ghost use Rattle.spq_core.specs.Composing.{fault_of_loading};
 
     ghost from_gives = { λ failed e. e ≡ fault_of_loading failed };
 
@@ -47,7 +47,7 @@ impl From<LoadFault> for Fault {
 
 impl From<EvalFault> for Fault {
     ghost use Rattle.std.specs.Prelude.{◌≡◌};
-    ghost use Rattle.spq_core.specs.Faults.{fault_of_evaluation};
+    ghost use Rattle.spq_core.specs.Composing.{fault_of_evaluation};
 
     ghost from_gives = { λ failed e. e ≡ fault_of_evaluation failed };
 

@@ -31,7 +31,7 @@ use needed_quads::laws::needed_quads_suffice;
 use nquads_core::{DeviceFailed, Sink, Source};
 use piece_pool::{OpenGate, PoolFault};
 use quad_filter::QuadFilter;
-use row_pieces::{Context, EvalFault, How};
+use row_pieces::{Context, How};
 use sparql_algebra::{Plan, translate};
 use sparql_tree::Query;
 use spq_command::{Command, ReadOptions};
@@ -289,8 +289,7 @@ fn planned<R: Threads + Wait + RandomSource, S: Source, P: Progress>(
             mem::forget(dict);
             Ok(blocks)
         }
-        Err(EvalFault::WorkerRefused) => Err(run_fault(log.progress(), Fault::WorkerRefused)),
-        Err(EvalFault::Memory) => Err(run_fault(log.progress(), Fault::Memory)),
+        Err(fault) => Err(run_fault(log.progress(), Fault::from(fault))),
     }
 }
 

@@ -22,11 +22,8 @@ returns-in-Ok-clause-composing g c =
     loaded g.S.Source.left g.S.Source.failures (IsNeededFrom A) (select c.args.valid.now.text.now) _ _ _ c.in_ok-store.store (query, c.requires.valid) (part_needed A _ _ c.in_ok-store.store c.in_ok-store.ensures.loading.loaded) c.in_ok-store.ensures.loading (Ok c.in-Ok.blocks)
     (composed_select c.needed_quads_suffice.ensures.law c.a_bag_has_one_sorted_list.ensures.same _ _ c.args.valid.now.text.now query plan.names.items A c.in_ok-store.store _ c.requires.valid c.requires.names c.requires.tree plan.within c.in_ok-store.ensures.loading.loaded c.in-Ok.ensures.answer) tt
 
-pub returns-in-Err-Memory-clause-cause : goal.returns-in-Err-Memory-clause-cause
-returns-in-Err-Memory-clause-cause g c = c.run_fault-in-Err-Memory.ensures.cause (g.S.Source.left c.args.reader.now)
-
-pub returns-in-Err-WorkerRefused-clause-cause : goal.returns-in-Err-WorkerRefused-clause-cause
-returns-in-Err-WorkerRefused-clause-cause g c = c.run_fault.ensures.cause (g.S.Source.left c.args.reader.now)
+pub returns-in-Err-clause-cause : goal.returns-in-Err-clause-cause
+returns-in-Err-clause-cause g c = c.run_fault.ensures.cause (g.S.Source.left c.args.reader.now)
 
 pub returns-in_err-store-clause-cause : goal.returns-in_err-store-clause-cause
 returns-in_err-store-clause-cause g c =
