@@ -12,6 +12,7 @@ It proves nothing and needs only Python 3. It checks:
 - each mutant can be applied: every `old:` text is in its file once;
 - the gate has at most 30 mutants, and one for each known fault in docs/MUTANTS.md that mutants show, unless the page says otherwise;
 - the mutants and tests that docs/MUTANTS.md names exist, and the names in capitals and small letters of docs/definitions;
+- the tests, modules and other names in the documentation of each crate's root exist;
 - the quotes and lists of docs/THEOREM.md are those of the sources, and it explains each line that it quotes;
 - the calls and clauses that docs/CONTRACTS.md names exist;
 - the figures of time and memory of the pages are those of bench/results.json, and none is written by hand;
@@ -118,6 +119,27 @@ def name_faults():
     return faults + [f"docs/MUTANTS.md: there is no test {it}" for it in re.findall(r"`(\w+(?:::\w+)+)`", page) if it not in tests]
 
 
+def root_faults():
+    """Returns a line for each test, module or name with an underscore in the documentation of a crate's root that does not exist."""
+    tests = {name for crate in crates() if crate.endswith("_tests") for name, _ in calls.tests_of(crate)}
+    # Also the modules that have tests.
+    tests |= {name.rsplit("::", count)[0] for name in tests for count in range(1, name.count("::") + 1)}
+    areas = {name.partition("::")[0] for name in tests}
+    words = {word for part in ("specs", "src", "proofs") for it in glob.glob(f"{ROOT}/crates/*/{part}/**/*.*t*", recursive=True)
+             for word in re.findall(r"\w+", re.sub(r"(?m)^ *//.*", "", read(os.path.relpath(it, ROOT))))}
+    faults = []
+    for path in sorted(glob.glob(f"{ROOT}/crates/*/src/lib.rt")):
+        path, folder = os.path.relpath(path, ROOT), os.path.dirname(os.path.dirname(path))
+        text = " ".join(re.findall(r"(?m)^//! ?(.*)", re.sub(r"(?ms)^//! ```.*?^//! ```", "", read(path))))
+        names = re.findall(r"`(?:\w+!?)(?:::\w+)*`", text)
+        faults += [f"{path}: there is no test {it}" for it in (name.strip("`") for name in names) if "::" in it and it.partition("::")[0] in areas and it not in tests]
+        faults += [f"{path}: nothing is named {it}" for it in (name.strip("`") for name in names) if "_" in it and it.rpartition("::")[2] not in words | crates().keys()]
+        for order in re.findall(r"Reading order: (.*?)(?:\.(?: |$))", re.sub(r"\.antt", "", text)):
+            files = {os.path.splitext(os.path.relpath(it, f"{folder}/{part}"))[0].replace("/", "::") for part in ("src", "specs") for it in glob.glob(f"{folder}/{part}/**/*.*t*", recursive=True)}
+            faults += [f"{path}: there is no module {it}" for it in re.findall(r"`([\w:]+)`", re.sub(r"\([^)]*\)", "", order)) if it not in files]
+    return faults
+
+
 def definition_faults():
     """Returns a line for each name such as `IsLoaded` in docs/definitions that no definition file, source or proof has."""
     files = [it for part in ("specs", "src", "proofs") for kind in ("antt", "rt") for it in glob.glob(f"{ROOT}/crates/*/{part}/*.{kind}")]
@@ -163,7 +185,7 @@ def main():
     if given.out:
         for path, text in pages.items():
             write(path, text)
-    faults = api.faults() + offered.faults() + mutant_faults() + name_faults() + definition_faults() + known_faults() + theorem.faults(PART.sub("", read(theorem.PAGE)))
+    faults = api.faults() + offered.faults() + mutant_faults() + name_faults() + root_faults() + definition_faults() + known_faults() + theorem.faults(PART.sub("", read(theorem.PAGE)))
     faults += contracts.rewritten(read(contracts.PAGE), calls.contract_of)[1] + usage.faults() + diagram_faults() + links.faults() + size_faults()
     faults += [it for path in PAGES for it in page_faults(path)]
     faults += figures.test_faults() + [it for path in figures.PAGES for it in figures.faults(path, read(path))]

@@ -94,8 +94,8 @@ fn number_all(
     Ok(())
 }
 
-/// Numbers the terms of a quad. After a failed allocation it still tries the other terms: so no term is left to drop,
-/// which would be slow to prove.
+/// Numbers the terms of a quad. It numbers all of them before the first `?`, so no exit drops a term (docs/PROOF.md, "Two
+/// idioms of the code").
 fn number_quad(dict: &mut Dict, quad: Quad) -> Result<NumQuad, AllocError>
     ensures terms { OnOk result
         (dict.new ≡ insert_all term_eq dict.old (terms_of_quad (parts_of quad))) }

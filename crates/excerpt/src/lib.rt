@@ -8,7 +8,7 @@
 //!
 //! No standard defines these messages; they are a choice of this project.
 //!
-//! Reading order: specs/Excerpt.antt, `excerpt`; specs/Message.antt, `message`. Tests: tests/examples.py
+//! Reading order: specs/Excerpt.antt, `columns`; specs/Message.antt, `messages`. Tests: tests/examples.py
 //! compares whole messages. Example:
 //!
 //! ```text

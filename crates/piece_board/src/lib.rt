@@ -25,8 +25,8 @@
 //! while let Some(i) = board.draw(&mut pass) { .. }         // in each thread
 //! let closed = board.close(passes);                        // drawn is 4
 //! ```
-//! The tests are `loading::boards` of spq_tests; `two_threads_draw_each_number_once` runs this
-//! example.
+//! Tests: `loading::boards` of spq_tests, and `loading::pools::two_threads_work_on_one_board`, which draws on two
+//! threads.
 //!
 //! Not guaranteed: which pass draws which number, that a look shows another pass's report at once,
 //! that any thread makes progress, and time.

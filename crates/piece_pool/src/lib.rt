@@ -23,7 +23,7 @@
 //! ```text
 //! let outcome = run_all(&rt, alloc, 4, 1000, &job, &OpenGate)?;
 //! ```
-//! The test `an_offset_gate_numbers_the_pieces_of_a_document` there makes a similar call.
+//! The test `loading::pools::each_piece_passes_the_gate_once` makes similar calls.
 //!
 //! Not guaranteed: that a second thread runs, that any piece is skipped, which worker runs which
 //! piece, and that `run_pieces` returns (it joins its workers).

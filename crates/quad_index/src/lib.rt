@@ -18,7 +18,7 @@
 //!
 //! Reading order: `sort_order`, `packed`, `quads`, `quad_list`, `prefix`, `range`, `index`, `counting`, `parts`,
 //! `laws`.
-//! Tests: `loading::index` and `loading::refusals` of spq_tests.
+//! Tests: `loading::lists` and `loading::refusals::index` of spq_tests.
 //!
 //! Not guaranteed: in which order a scan returns its quads.
 #![tactic(auto)]

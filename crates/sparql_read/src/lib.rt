@@ -28,7 +28,7 @@
 //! `reader`, `laws`. `sparql_grammar` defines which tree a text derives, and `sparql_tree` the basic
 //! graph patterns of a group.
 //!
-//! Tests: `query::chains` of spq_tests, and tests/examples/query_rules.toml, which has texts for each rule.
+//! Tests: tests/examples/query_rules.toml, which has texts for each rule.
 //!
 //! Not guaranteed: the time that a text takes. By design it is the time to sort its names and to
 //! write the triples of the tree, each of which owns its subject and verb.

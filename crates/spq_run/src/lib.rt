@@ -11,7 +11,7 @@
 //! Reading order: `fault`, `writing`, `report` (lines and statuses of faults, and the end), `notes`.
 //!
 //! Example: the line of `RunFault::BadLine(7)` is `error: line 7`, and its status is 1. The test
-//! `program::faults::faults_are_written` of spq_tests has such examples.
+//! `program::faults::a_fault_is_written` of spq_tests has such examples.
 //!
 //! Not guaranteed: that the writer takes a line.
 #![tactic(auto)]
