@@ -63,6 +63,7 @@ pub trait Sink {
 /// exposes, and no count of failures. Any error of theirs is `DeviceFailed`.
 #[derive(Drop)]
 pub struct Device<T> {
+    /// The reader or the writer.
     pub inner: T,
 }
 

@@ -36,9 +36,13 @@ impl Drop for WantedGraph {
 
 /// The shape of quads: what is wanted at each position.
 pub struct Shape {
+    /// The subjects that are wanted.
     pub subject: Wanted,
+    /// The predicates that are wanted.
     pub predicate: Wanted,
+    /// The objects that are wanted.
     pub object: Wanted,
+    /// The graphs that are wanted.
     pub graph: WantedGraph,
 }
 

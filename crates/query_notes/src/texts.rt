@@ -11,15 +11,20 @@ use std::alloc::{AllocError, Global};
 /// A terminal of a query, with the number of characters before it and up to its end.
 #[derive(Clone, Copy)]
 pub struct Terminal {
+    /// Which terminal it is.
     pub kind: Kind,
+    /// The number of characters before it.
     pub start: usize,
+    /// The number of characters up to its end.
     pub end: usize,
 }
 
 /// The text of a query and its terminals.
 #[derive(Drop)]
 pub struct Text {
+    /// The characters of the text.
     pub characters: Vec<char>,
+    /// The terminals, in the order of the text.
     pub terminals: Vec<Terminal>,
 }
 

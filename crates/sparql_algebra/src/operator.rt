@@ -25,8 +25,11 @@ impl Drop for PatternTerm {
 /// A triple pattern of a basic graph pattern.
 #[derive(Drop)]
 pub struct TriplePattern {
+    /// The term, variable or label at the subject.
     pub subject: PatternTerm,
+    /// The term, variable or label at the predicate.
     pub predicate: PatternTerm,
+    /// The term, variable or label at the object.
     pub object: PatternTerm,
 }
 

@@ -32,8 +32,11 @@ const CLEAR: &[u8] = b"\r\x1b[K";
 /// Which devices of a program are terminals.
 #[derive(Clone, Copy)]
 pub struct Terminals {
+    /// Whether standard input is a terminal.
     pub input: bool,
+    /// Whether standard output is a terminal.
     pub output: bool,
+    /// Whether standard error is a terminal.
     pub error: bool,
 }
 

@@ -39,7 +39,9 @@ fn first(known: Option<Error>, error: Error) -> Option<Error>
 /// reads no more, because at a terminal each further read would wait for another end.
 #[derive(Drop)]
 pub struct Input<'m, T, M> {
+    /// The reader.
     pub inner: T,
+    /// What is called as bytes are read.
     pub meter: &'m M,
     /// The first error of a read.
     pub error: Option<Error>,
@@ -94,7 +96,9 @@ impl<'m, T: Read, M: Meter> Source for Input<'m, T, M> {
 /// A writer of std as a sink. It keeps the first error of the writer, and calls a meter.
 #[derive(Drop)]
 pub struct Output<'m, T, M> {
+    /// The writer.
     pub inner: T,
+    /// What is called as bytes are written.
     pub meter: &'m M,
     /// The first error of a write.
     pub error: Option<Error>,
