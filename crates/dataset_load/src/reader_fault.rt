@@ -1,6 +1,7 @@
 //! Why the rest of a reader is not loaded.
 use crate::fault::LoadFault;
 use nquads_core::ReadFault;
+use std::alloc::AllocError;
 
 /// Why the rest of a reader is not loaded.
 #[derive(Clone, Copy, Debug, PartialEq, Eq)]
@@ -13,6 +14,17 @@ pub enum ReaderFault {
     Memory,
     /// The reader failed.
     Read,
+}
+
+impl From<AllocError> for ReaderFault {
+    ghost use Rattle.std.specs.Prelude.{◌≡◌};
+    ghost use Rattle.dataset_load.specs.declared.reader_fault.ReaderFault.TheVariants.{Memory};
+
+    ghost from_gives = { λ _ fault. fault ≡ Memory };
+
+    fn from(_failed: AllocError) -> ReaderFault {
+        ReaderFault::Memory
+    }
 }
 
 impl From<LoadFault> for ReaderFault {
