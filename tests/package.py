@@ -3,7 +3,7 @@
 
     package.py SPQ SPQ_PART              packs the programs twice, in folders of other names, with another umask
     package.py SPQ SPQ_PART --rebuild    also proves and builds the programs again in a clone in another folder, and compares the
-                                         executables; takes minutes
+                                         executables; takes about ten processor minutes, so the gate does not do it
 
 Unpacks the tar archive, runs the executables, and checks the sums. Where dpkg-deb is installed, it reads the package too.
 """
