@@ -1,11 +1,11 @@
 //! spq: SPARQL SELECT over an N-Quads document, from bytes to JSON.
 //!
 //! The input is a document and the text of a query. The result is the JSON of the solutions, or the reason why
-//! there is none. The program calls [`run_words`]; [`answer`] evaluates a query over a document in memory. Their contracts
-//! say that the result of a query is the one that the standards prescribe (`IsQueryResult` of specs/Outcome.antt), unless
-//! memory, a thread or a device fails. The query is checked first, then the document. The bytes are the JSON of the algebra's solutions over the dataset, with their
-//! repeats, in order. No cut, worker or gate occurs in the definition, and document and query have at most one result
-//! (`one_outcome` of [`laws`]).
+//! there is none. The program calls [`run_words`]; [`answer`] evaluates a query over a document in memory. Their
+//! contracts say that the result of a query is the one that the standards prescribe (`IsQueryResult` of
+//! specs/Outcome.antt), unless memory, a thread or a device fails. The query is checked first, then the document. The
+//! bytes are the JSON of the algebra's solutions over the dataset, with their repeats, in order. No cut, worker or gate
+//! occurs in the definition, and document and query have at most one result (`one_outcome` of [`laws`]).
 //!
 //! [`run`] states the same for a command over a reader and a writer, and what is left on each error. It plans a query before it
 //! reads, validates every line, and may leave out quads that the plan does not need (`needed_quads`). A command has
